@@ -1,0 +1,1 @@
+// Theory only: the laws of the whole numbers that the crates above cite. No code.
