@@ -10,7 +10,7 @@ use lib.Signed.{mag, ltZ, leZ, nonNeg}
 use mir.Syntax.{w32, w64}
 use mir.Val.{Fits, SFits, toZ, ofZ}
 use mir.Facts.{toZ-ofZ, toZ-pos, sfits-widen}
-use Rattle.integers.specs.Signs.{isNeg, withSign}
+use Rattle.integers.specs.Signs.{isNegative, withSign}
 
 -- an i32 read back from 32 bits, or from 64
 pub back : {z : ℤ} → SFits w32 z → toZ w32 (ofZ w32 z) ≡ z
@@ -34,7 +34,7 @@ pub bits-same : (x y : ℤ) → mag x < 2 ^ 63 → mag y < 2 ^ 63 → ofZ w64 x 
 bits-same x y h k e = sym (back64-of x h) ∙ ap (toZ w64) e ∙ back64-of y k
 
 -- the test z < 0
-pub below-zero : (z : ℤ) → ltZ z (pos 0) ≡ isNeg z
+pub below-zero : (z : ℤ) → ltZ z (pos 0) ≡ isNegative z
 below-zero (pos n) = leb·suc-zero n
 below-zero (negsuc n) = refl
 
@@ -76,12 +76,12 @@ natAbs-fits z h = record { fits = omega (arith, natAbs-mag z, h .sfits) }
 pub natAbs-small : (z : ℤ) → SFits w32 z → natAbs z ≤ 2147483648
 natAbs-small z h = omega (arith, natAbs-mag z, h .sfits)
 
-pub neg-nonNeg : (z : ℤ) → isNeg z ≡ true → T (nonNeg (negℤ z))
+pub neg-nonNeg : (z : ℤ) → isNegative z ≡ true → T (nonNeg (negℤ z))
 neg-nonNeg (pos zero) e = tt
 neg-nonNeg (pos (suc n)) e = subst (λ (b : Bool). T (not b)) e tt
 neg-nonNeg (negsuc n) e = tt
 
-pub pos-nonNeg : (z : ℤ) → isNeg z ≡ false → T (nonNeg z)
+pub pos-nonNeg : (z : ℤ) → isNegative z ≡ false → T (nonNeg z)
 pos-nonNeg (pos n) e = tt
 pos-nonNeg (negsuc n) e = subst T e tt
 

@@ -185,25 +185,3 @@ module _ (ρ : List ℤ) where
 
   pub solve : (a b : Expr) → norm a ≡ norm b → eval ρ a ≡ eval ρ b
   solve a b e = sym (norm-val a) ∙ ap val e ∙ norm-val b
-
--- ---- tries
-difference : (a b : ℤ) → (a +ℤ b) *ℤ (a +ℤ negℤ b) ≡ a *ℤ a +ℤ negℤ (b *ℤ b)
-difference a b = solve (a ∷ (b ∷ [])) ((var 0 ⊕ var 1) ⊗ (var 0 ⊕ neg (var 1))) (var 0 ⊗ var 0 ⊕ neg (var 1 ⊗ var 1)) refl
-
-double : (a b : ℤ) → (a +ℤ b) *ℤ (a +ℤ b) ≡ a *ℤ a +ℤ pos 2 *ℤ (a *ℤ b) +ℤ b *ℤ b
-double a b = solve (a ∷ (b ∷ [])) ((var 0 ⊕ var 1) ⊗ (var 0 ⊕ var 1)) (var 0 ⊗ var 0 ⊕ num (pos 2) ⊗ (var 0 ⊗ var 1) ⊕ var 1 ⊗ var 1) refl
-
-three : (a b c : ℤ) → (a -ℤ b) *ℤ c +ℤ ((b -ℤ c) *ℤ a +ℤ (c -ℤ a) *ℤ b) ≡ pos 0
-three a b c =
-    solve (a ∷ (b ∷ (c ∷ []))) ((var 0 ⊕ neg (var 1)) ⊗ var 2 ⊕ ((var 1 ⊕ neg (var 2)) ⊗ var 0 ⊕ (var 2 ⊕ neg (var 0)) ⊗ var 1)) (num (pos 0)) refl
-
-cube : (a b c : ℤ) → (a +ℤ b +ℤ c) *ℤ ((a +ℤ b +ℤ c) *ℤ (a +ℤ b +ℤ c)) ≡ ((c +ℤ b +ℤ a) *ℤ (a +ℤ c +ℤ b)) *ℤ (b +ℤ c +ℤ a)
-cube a b c =
-    solve (a ∷ (b ∷ (c ∷ []))) ((var 0 ⊕ var 1 ⊕ var 2) ⊗ ((var 0 ⊕ var 1 ⊕ var 2) ⊗ (var 0 ⊕ var 1 ⊕ var 2))) (((var 2 ⊕ var 1 ⊕ var 0) ⊗ (var 0 ⊕ var 2 ⊕ var 1)) ⊗ (var 1 ⊕ var 2 ⊕ var 0)) refl
-
-quotients : (a b c d e f : ℤ) → (a *ℤ (d *ℤ f) +ℤ (c *ℤ f +ℤ e *ℤ d) *ℤ b) *ℤ ((b *ℤ d) *ℤ f) ≡ ((a *ℤ d +ℤ c *ℤ b) *ℤ f +ℤ e *ℤ (b *ℤ d)) *ℤ (b *ℤ (d *ℤ f))
-quotients a b c d e f =
-    let v0 = var 0 in
-    solve (a ∷ (b ∷ (c ∷ (d ∷ (e ∷ (f ∷ []))))))
-    ((var 0 ⊗ (var 3 ⊗ var 5) ⊕ (var 2 ⊗ var 5 ⊕ var 4 ⊗ var 3) ⊗ var 1) ⊗ ((var 1 ⊗ var 3) ⊗ var 5))
-    (((var 0 ⊗ var 3 ⊕ var 2 ⊗ var 1) ⊗ var 5 ⊕ var 4 ⊗ (var 1 ⊗ var 3)) ⊗ (var 1 ⊗ (var 3 ⊗ var 5))) refl
