@@ -49,9 +49,13 @@ unfoldable pub floorZ : ℤ → ℕ → ℤ
 floorZ (pos n) d = pos (n / d)
 floorZ (negsuc n) d = negsuc (n / d)
 
+-- z / d rounded up
+unfoldable pub ceilingZ : ℤ → ℕ → ℤ
+ceilingZ z d = negℤ (floorZ (negℤ z) d)
+
 -- the greatest whole number that is at most x, and the least that is at least x
 abbrev pub floorQ : Quotient → ℤ
 floorQ x = floorZ (x .top) (x .bottom)
 
 abbrev pub ceilingQ : Quotient → ℤ
-ceilingQ x = negℤ (floorZ (negℤ (x .top)) (x .bottom))
+ceilingQ x = ceilingZ (x .top) (x .bottom)

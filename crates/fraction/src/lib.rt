@@ -1,7 +1,19 @@
 // Values within the limit: fractions in lowest terms, whose numerator and denominator have magnitudes of at most
-// 2,147,483,647, with product, sum, comparison, floor and ceiling. No function asks anything of its caller.
+// 2,147,483,647, with product, sum, comparison, floor and ceiling. No public function asks anything of its caller.
 ghost use mathlib.Core.Path.{_≡_};
-ghost use Rattle.fraction.specs.Fraction.{productOf, sumOf, compareOf, floorOf, ceilingOf, arithmeticSays, comparisonSays, roundingSays};
+ghost use mathlib.Core.Bool.{_&&_};
+ghost use Prim.Native.Nat.{ℕ, _*_, _≤_, _<_};
+ghost use lib.IntN.{ℤ, pos, natAbs, _*ℤ_, _+ℤ_};
+ghost use lib.Signed.{_<ℤ_};
+ghost use Rattle.integers.specs.Gcd.{gcd as gcdOf};
+ghost use Rattle.integers.specs.Signs.{withSign};
+ghost use Rattle.fraction.specs.Quotient.{_+Q_, _*Q_, lowest, floorZ, ceilingZ};
+ghost use Rattle.fraction.specs.Fraction.{limit, isFraction, within as withinOf, productOf, sumOf, compareOf, order, floorOf, ceilingOf, arithmeticSays, comparisonSays, roundingSays};
+ghost use Rattle.fraction.specs.Outcome.{gives};
+ghost use Rattle.fraction.specs.Parts.{Parts, over};
+
+// The largest magnitude of a numerator or a denominator.
+const LIMIT: u64 = 2147483647;
 
 // A numerator over a denominator. Any two numbers can stand here; `is_fraction` says which pairs are values.
 pub struct Fraction {
@@ -28,4 +40,235 @@ pub enum Comparison {
 pub enum Rounding {
     Whole(i32),
     NotAFraction,
+}
+
+// The greatest common divisor, by Euclid's loop.
+fn gcd(a: u32, b: u32) -> u32
+    ensures { λ r. ⌜ r ≡ gcdOf a b ⌝ }
+{
+    let mut x = a;
+    let mut y = b;
+    while y != 0 {
+        let t = x % y;
+        x = y;
+        y = t;
+    }
+    x
+}
+
+fn magnitude_wide(x: i64) -> u64
+    requires { ⌜ natAbs x < 9223372036854775808 ⌝ }
+    ensures { λ r. ⌜ r ≡ natAbs x ⌝ }
+{
+    if x < 0 { (0 - x) as u64 } else { x as u64 }
+}
+
+fn magnitude(x: i32) -> u32
+    ensures { λ r. ⌜ r ≡ natAbs x ⌝ }
+{
+    magnitude_wide(x as i64) as u32
+}
+
+// A sign, true for negative, and a magnitude as one number.
+fn signed(neg: bool, m: u64) -> i32
+    requires { ⌜ m ≤ limit ⌝ }
+    ensures { λ r. ⌜ r ≡ withSign neg m ⌝ }
+{
+    let p = m as i32;
+    if neg { 0 - p } else { p }
+}
+
+// Whole products of numbers of 32 bits.
+fn wide(a: u32, b: u32) -> u64
+    ensures { λ r. ⌜ r ≡ a * b ⌝ }
+{
+    (a as u64) * (b as u64)
+}
+
+fn wide_signed(n: i32, d: u32) -> i64
+    ensures { λ r. ⌜ r ≡ n *ℤ pos d ⌝ }
+{
+    (n as i64) * (d as i64)
+}
+
+// Whether a pair is a fraction in lowest terms within the limit. A whole number needs no greatest common divisor.
+fn is_fraction(f: Fraction) -> bool
+    ensures { λ r. ⌜ r ≡ isFraction f ⌝ }
+{
+    let n = f.num;
+    let d = f.den;
+    if d <= 0 {
+        return false;
+    }
+    let p = magnitude(n);
+    if (p as u64) > LIMIT {
+        return false;
+    }
+    let q = magnitude(d);
+    if q == 1 {
+        return true;
+    }
+    gcd(p, q) == 1
+}
+
+fn both(a: Fraction, b: Fraction) -> bool
+    ensures { λ r. ⌜ r ≡ isFraction a && isFraction b ⌝ }
+{
+    if is_fraction(a) { is_fraction(b) } else { false }
+}
+
+// A quotient that is in lowest terms already, if it is within the limit.
+fn within(neg: bool, n: u64, d: u64) -> Arithmetic
+    ensures { λ r. ⌜ arithmeticSays r ≡ withinOf (over (withSign neg n) d) ⌝ }
+{
+    if n > LIMIT {
+        return Arithmetic::TooWide;
+    }
+    if d > LIMIT {
+        return Arithmetic::TooWide;
+    }
+    Arithmetic::Value(Fraction {
+        num: signed(neg, n),
+        den: signed(false, d),
+    })
+}
+
+// n / d times m / e. The common divisors of n and e, and of m and d, are divided out before the products are formed: what
+// is left is in lowest terms, and no loop runs on more than 32 bits.
+fn times(n: i32, d: u32, m: i32, e: u32) -> Arithmetic
+    requires { ⌜ Parts n d × Parts m e ⌝ }
+    ensures { λ r. ⌜ arithmeticSays r ≡ withinOf (lowest (over n d *Q over m e)) ⌝ }
+{
+    let neg = (n < 0) != (m < 0);
+    let p = magnitude(n);
+    let q = magnitude(m);
+    if d == 1 {
+        if e == 1 {
+            return within(neg, wide(p, q), 1);
+        }
+    }
+    let g = gcd(p, e);
+    let h = gcd(q, d);
+    within(neg, wide(p / g, q / h), wide(d / h, e / g))
+}
+
+// n * e + m * d.
+fn cross_sum(n: i32, e: u32, m: i32, d: u32) -> i64
+    requires { ⌜ ((natAbs n ≤ limit) × (e ≤ limit)) × ((natAbs m ≤ limit) × (d ≤ limit)) ⌝ }
+    ensures { λ r. ⌜ (r ≡ n *ℤ pos e +ℤ m *ℤ pos d) × (natAbs r < 9223372036854775808) ⌝ }
+{
+    wide_signed(n, e) + wide_signed(m, d)
+}
+
+// n plus m, whole numbers.
+fn plus_whole(n: i32, m: i32) -> Arithmetic
+    requires { ⌜ (natAbs n ≤ limit) × (natAbs m ≤ limit) ⌝ }
+    ensures { λ r. ⌜ arithmeticSays r ≡ withinOf (over (n +ℤ m) 1) ⌝ }
+{
+    let s = cross_sum(n, 1, m, 1);
+    within(s < 0, magnitude_wide(s), 1)
+}
+
+// n / d plus m / e. With g the common divisor of d and e, the sum is t / (d / g * e) for t = n * (e / g) + m * (d / g), and
+// only divisors of g are left to divide out.
+fn plus(n: i32, d: u32, m: i32, e: u32) -> Arithmetic
+    requires { ⌜ Parts n d × Parts m e ⌝ }
+    ensures { λ r. ⌜ arithmeticSays r ≡ withinOf (lowest (over n d +Q over m e)) ⌝ }
+{
+    if d == 1 {
+        if e == 1 {
+            return plus_whole(n, m);
+        }
+    }
+    let g = gcd(d, e);
+    let t = cross_sum(n, e / g, m, d / g);
+    let p = magnitude_wide(t);
+    let h = gcd(g, (p % (g as u64)) as u32);
+    within(t < 0, p / (h as u64), wide(d / g, e / h))
+}
+
+pub fn product(a: Fraction, b: Fraction) -> Arithmetic
+    ensures { λ r. ⌜ arithmeticSays r ≡ productOf a b ⌝ }
+{
+    if both(a, b) {
+        times(a.num, magnitude(a.den), b.num, magnitude(b.den))
+    } else {
+        Arithmetic::NotAFraction
+    }
+}
+
+pub fn sum(a: Fraction, b: Fraction) -> Arithmetic
+    ensures { λ r. ⌜ arithmeticSays r ≡ sumOf a b ⌝ }
+{
+    if both(a, b) {
+        plus(a.num, magnitude(a.den), b.num, magnitude(b.den))
+    } else {
+        Arithmetic::NotAFraction
+    }
+}
+
+// The numerator of a times the denominator of b.
+fn cross(a: Fraction, b: Fraction) -> i64
+    ensures { λ r. ⌜ r ≡ a .num *ℤ pos (natAbs (b .den)) ⌝ }
+{
+    wide_signed(a.num, magnitude(b.den))
+}
+
+fn ordered(x: i64, y: i64) -> Comparison
+    ensures { λ r. ⌜ comparisonSays r ≡ gives (order x y) ⌝ }
+{
+    if x < y {
+        Comparison::Less
+    } else if y < x {
+        Comparison::Greater
+    } else {
+        Comparison::Equal
+    }
+}
+
+pub fn compare(a: Fraction, b: Fraction) -> Comparison
+    ensures { λ r. ⌜ comparisonSays r ≡ compareOf a b ⌝ }
+{
+    if both(a, b) {
+        ordered(cross(a, b), cross(b, a))
+    } else {
+        Comparison::NotAFraction
+    }
+}
+
+// n / d rounded down. The signed division rounds toward zero, so a negative remainder takes one more off.
+fn floor_of(n: i32, d: i32) -> i32
+    requires { ⌜ pos 0 <ℤ d ⌝ }
+    ensures { λ r. ⌜ r ≡ floorZ n (natAbs d) ⌝ }
+{
+    let q = n / d;
+    if n % d < 0 { q - 1 } else { q }
+}
+
+// n / d rounded up: -n / d rounded down, negated.
+fn ceiling_of(n: i32, d: i32) -> i32
+    requires { ⌜ (pos 0 <ℤ d) × (natAbs n ≤ limit) ⌝ }
+    ensures { λ r. ⌜ r ≡ ceilingZ n (natAbs d) ⌝ }
+{
+    0 - floor_of(0 - n, d)
+}
+
+pub fn floor(a: Fraction) -> Rounding
+    ensures { λ r. ⌜ roundingSays r ≡ floorOf a ⌝ }
+{
+    if is_fraction(a) {
+        Rounding::Whole(floor_of(a.num, a.den))
+    } else {
+        Rounding::NotAFraction
+    }
+}
+
+pub fn ceiling(a: Fraction) -> Rounding
+    ensures { λ r. ⌜ roundingSays r ≡ ceilingOf a ⌝ }
+{
+    if is_fraction(a) {
+        Rounding::Whole(ceiling_of(a.num, a.den))
+    } else {
+        Rounding::NotAFraction
+    }
 }

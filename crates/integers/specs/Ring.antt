@@ -5,11 +5,10 @@ use mathlib.Core.Bool.{Bool, true, false, not, cond, _&&_, _||_}
 use mathlib.Core.List.{List, [], _∷_}
 use Prim.Native.Nat.{ℕ, zero, suc}
 use borrow.Author.Tests.{eqb-true}
-use native.Mathlib.Nat.{one-mul}
 use lib.Dec.{T, leb, ltb, eqb}
 use lib.ListN.{getD}
 use lib.IntN.{ℤ, pos, negsuc, negℤ, _+ℤ_, _-ℤ_, _*ℤ_, +ℤ-assoc, +ℤ-comm, +ℤ-idl, +ℤ-idr, *ℤ-comm, *ℤ-zero, zero-*ℤ}
-use Rattle.integers.specs.Integers.{+ℤ-left-comm, *ℤ-assoc, *ℤ-left-comm, *ℤ-+ℤ, +ℤ-*ℤ, *ℤ-neg-l}
+use Rattle.integers.specs.Integers.{one-*ℤ, +ℤ-left-comm, *ℤ-assoc, *ℤ-left-comm, *ℤ-+ℤ, +ℤ-*ℤ, *ℤ-neg-l}
 
 pub data Expr : Type 0 where
   var : ℕ → Expr
@@ -105,10 +104,6 @@ same-is (i ∷ m) (j ∷ n) e =
 zero-is : (c : ℤ) → isZero c ≡ true → c ≡ pos 0
 zero-is (pos n) e = ap pos (eqb-true n 0 e)
 zero-is (negsuc n) e = absurd (subst (λ (x : Bool). T (not x)) e tt)
-
-one-*ℤ : (z : ℤ) → pos 1 *ℤ z ≡ z
-one-*ℤ (pos n) = ap pos (one-mul n)
-one-*ℤ (negsuc n) = ap (λ (k : ℕ). negℤ (pos k)) (one-mul (suc n))
 
 module _ (ρ : List ℤ) where
   abbrev valM : List ℕ → ℤ
