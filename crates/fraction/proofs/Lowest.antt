@@ -67,11 +67,11 @@ module _ (n m : ℤ) (d e : ℕ) (s : Bool) (p q : ℕ) (sign : s ≡ not (Bool�
       let top = p / g * (q / h) in
       let bottom = d / h * (e / g) in
       let coprime : Coprime top bottom =
-          rw (eg, eh) (product-coprime p d q e (rw ep (v .lowest-terms)) (rw eq (w .lowest-terms)) (v .positive) (w .positive)) in
+      rw (eg, eh) (product-coprime p d q e (rw ep (v .lowest-terms)) (rw eq (w .lowest-terms)) (v .positive) (w .positive)) in
       let equal : top * (d * e) ≡ (p * q) * bottom =
-          regroup (p / g) (q / h) d e
-          ∙ ap₂ (λ (a b : ℕ). a * b) (exchange p e g gp ge) (exchange q d h hq hd)
-          ∙ regroup′ p q (d / h) (e / g) in
+      regroup (p / g) (q / h) d e
+      ∙ ap₂ (λ (a b : ℕ). a * b) (exchange p e g gp ge) (exchange q d h hq hd)
+      ∙ regroup′ p q (d / h) (e / g) in
       sym
       (lowest-is (over n d *Q over m e) (over (withSign s top) bottom) (mul-pos (v .positive) (w .positive))
       (mul-pos (quotient-positive d h hd (v .positive)) (quotient-positive e g ge (w .positive)))

@@ -39,11 +39,11 @@ fraction-is f e =
     let p = and-true a (b && (c && d)) e in
     let q = and-true b (c && d) (p .1) in
     let r = and-true c d (q .1) in
-    record
-    { positive = record { lt = subst T (sym (p .0)) tt }
-    ; num-within = leb-true _ _ (q .0)
-    ; den-within = leb-true _ _ (r .0)
-    ; lowest-terms = eqb-true _ _ (r .1)
+    record {
+      positive = record { lt = subst T (sym (p .0)) tt };
+      num-within = leb-true _ _ (q .0);
+      den-within = leb-true _ _ (r .0);
+      lowest-terms = eqb-true _ _ (r .1);
     }
 
 truth : (b : Bool) → T b → b ≡ true
@@ -90,11 +90,11 @@ module _ (x : Quotient) (h : Positive x) where
   made-is : leb (natAbs (low .top)) limit && leb (low .bottom) limit ≡ true → IsFraction made
   made-is e =
       let p = and-true (leb (natAbs (low .top)) limit) (leb (low .bottom) limit) e in
-      record
-      { positive = record { lt = subst T (sym (lt-ltb 0 (low .bottom) (lowest-positive x h))) tt }
-      ; num-within = leb-true _ _ (p .0)
-      ; den-within = leb-true _ _ (p .1)
-      ; lowest-terms = lowest-coprime x h
+      record {
+        positive = record { lt = subst T (sym (lt-ltb 0 (low .bottom) (lowest-positive x h))) tt };
+        num-within = leb-true _ _ (p .0);
+        den-within = leb-true _ _ (p .1);
+        lowest-terms = lowest-coprime x h;
       }
 
   -- a fraction that is given is one, and equals x
@@ -156,17 +156,17 @@ means a b x h = go (isFraction a && isFraction b) refl
     go : (t : Bool) → isFraction a && isFraction b ≡ t → Means a b x (cond t (within (lowest x)) (refuses 4))
     go true e =
         let v = both-are a b e in
-        record
-        { refuses-4 = ((λ r. absurd (within-not-4 (lowest x) r)), λ n. absurd (n v))
-        ; gives-exactly = λ f. ((λ r. (v, within-sound x (h v) f r)), λ p. within-complete x (h v) f (p .1 .0) (p .1 .1))
-        ; refuses-12 = ((λ r. (v, within-else x (h v) r)), λ p. within-none x (h v) (p .1))
+        record {
+          refuses-4 = ((λ r. absurd (within-not-4 (lowest x) r)), λ n. absurd (n v));
+          gives-exactly = λ f. ((λ r. (v, within-sound x (h v) f r)), λ p. within-complete x (h v) f (p .1 .0) (p .1 .1));
+          refuses-12 = ((λ r. (v, within-else x (h v) r)), λ p. within-none x (h v) (p .1));
         }
     go false e =
         let no : IsFraction a × IsFraction b → ⊥ = λ v. let z : _≡_ {A = Bool} false true = sym e ∙ are-both a b v in subst (λ (x : Bool). T (not x)) z tt in
-        record
-        { refuses-4 = ((λ r. no), λ n. refl)
-        ; gives-exactly = λ f. ((λ r. absurd (apart (refuses 4) 4 f refl r)), λ p. absurd (no (p .0)))
-        ; refuses-12 = ((λ r. absurd (let z : _≡_ {A = ℕ} 4 12 = cc in omega arith)), λ p. absurd (no (p .0)))
+        record {
+          refuses-4 = ((λ r. no), λ n. refl);
+          gives-exactly = λ f. ((λ r. absurd (apart (refuses 4) 4 f refl r)), λ p. absurd (no (p .0)));
+          refuses-12 = ((λ r. absurd (let z : _≡_ {A = ℕ} 4 12 = cc in omega arith)), λ p. absurd (no (p .0)));
         }
 
 pub product-means : (a b : Fraction) → Means a b (exact a *Q exact b) (productOf a b)
@@ -218,15 +218,15 @@ pub record Answers {A : Type 0} (Operands : Type 0) (result : A) (o : Outcome A)
 answers : {A Operands : Type 0} (t : Bool) (result : A) → (t ≡ true) ↔ Operands → Answers Operands result (onFractions t (gives result))
 unfolding onFractions
 answers true result e =
-    record
-    { refuses-4 = ((λ r. absurd (apart (gives result) 4 result r refl)), λ n. absurd (n (e .0 refl)))
-    ; gives-it = λ s. ((λ r. (e .0 refl, (cc))), λ p. ap gives (p .1))
+    record {
+      refuses-4 = ((λ r. absurd (apart (gives result) 4 result r refl)), λ n. absurd (n (e .0 refl)));
+      gives-it = λ s. ((λ r. (e .0 refl, (cc))), λ p. ap gives (p .1));
     }
 answers {Operands = Operands} false result e =
     let no : Operands → ⊥ = λ v. subst (λ (x : Bool). T (not x)) (e .1 v) tt in
-    record
-    { refuses-4 = ((λ r. no), λ n. refl)
-    ; gives-it = λ s. ((λ r. absurd (apart (refuses 4) 4 s refl r)), λ p. absurd (no (p .0)))
+    record {
+      refuses-4 = ((λ r. no), λ n. refl);
+      gives-it = λ s. ((λ r. absurd (apart (refuses 4) 4 s refl r)), λ p. absurd (no (p .0)));
     }
 
 pub compare-answers : (a b : Fraction) → Answers (IsFraction a × IsFraction b) (orderQ (exact a) (exact b)) (compareOf a b)

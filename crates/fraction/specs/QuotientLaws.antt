@@ -89,7 +89,7 @@ unfolding _≤Q_
     let c = pos (z .bottom) in
     let k = (z .top *ℤ a) *ℤ (b *ℤ c) in
     let scaled : (pos (z .bottom * z .bottom) *ℤ (x .top *ℤ b)) ≤ℤ (pos (z .bottom * z .bottom) *ℤ (y .top *ℤ a)) =
-        *ℤ-mono (z .bottom * z .bottom) (x .top *ℤ b) (y .top *ℤ a) h in
+    *ℤ-mono (z .bottom * z .bottom) (x .top *ℤ b) (y .top *ℤ a) h in
     let left : (c *ℤ c) *ℤ (x .top *ℤ b) +ℤ k ≡ (x .top *ℤ c +ℤ z .top *ℤ a) *ℤ (b *ℤ c) = simp ring in
     let right : (c *ℤ c) *ℤ (y .top *ℤ a) +ℤ k ≡ (y .top *ℤ c +ℤ z .top *ℤ b) *ℤ (a *ℤ c) = simp ring in
     subst (λ (w : ℤ). w ≤ℤ ((y .top *ℤ c +ℤ z .top *ℤ b) *ℤ (a *ℤ c))) left
@@ -216,6 +216,6 @@ module _ (x : Quotient) (h : Positive x) where
   ceiling-least k e =
       let f = floorZ (negℤ (x .top)) (x .bottom) in
       let turned : (negℤ k *ℤ pos (x .bottom)) ≤ℤ negℤ (x .top) =
-          subst (λ (w : ℤ). w ≤ℤ negℤ (x .top)) (sym (*ℤ-neg-l k (pos (x .bottom))))
-          (≤ℤ-neg (x .top) (k *ℤ pos (x .bottom)) (subst (λ (w : ℤ). w ≤ℤ (k *ℤ pos (x .bottom))) (*ℤ-pos-one (x .top)) e)) in
+      subst (λ (w : ℤ). w ≤ℤ negℤ (x .top)) (sym (*ℤ-neg-l k (pos (x .bottom))))
+      (≤ℤ-neg (x .top) (k *ℤ pos (x .bottom)) (subst (λ (w : ℤ). w ≤ℤ (k *ℤ pos (x .bottom))) (*ℤ-pos-one (x .top)) e)) in
       subst (λ (w : ℤ). negℤ f ≤ℤ w) (negℤ-negℤ k) (≤ℤ-neg (negℤ k) f (floorZ-greatest (negℤ (x .top)) (x .bottom) h (negℤ k) turned))

@@ -114,7 +114,11 @@ fn is_fraction(f: Fraction) -> bool
 fn both(a: Fraction, b: Fraction) -> bool
     ensures { λ r. ⌜ r ≡ isFraction a && isFraction b ⌝ }
 {
-    if is_fraction(a) { is_fraction(b) } else { false }
+    if is_fraction(a) {
+        is_fraction(b)
+    } else {
+        false
+    }
 }
 
 // A quotient that is in lowest terms already, if it is within the limit.

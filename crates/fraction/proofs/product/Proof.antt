@@ -34,9 +34,9 @@ times-requires : tie.Need-times-requires
 times-requires c κs =
     let m = c .before .before .before .before in
     let s = m .before .before .before .before in
-    let v = both-are (s .args .a) (s .args .b) (fractions (m .before .before)) in
-    ( parts-read (s .args .a) _ (told-a s) (m .magnitude .ensures) (v .0)
-    , parts-read (s .args .b) _ (told-b s) (c .before .before .magnitude2 .ensures) (v .1)
+    let v = both-are (s .args .a) (s .args .b) (fractions (m .before .before)) in (
+      parts-read (s .args .a) _ (told-a s) (m .magnitude .ensures) (v .0),
+      parts-read (s .args .b) _ (told-b s) (c .before .before .magnitude2 .ensures) (v .1),
     )
 
 returns : tie.Need-returns
