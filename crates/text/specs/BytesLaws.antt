@@ -3,11 +3,13 @@
 use mathlib.Core.Path.{_≡_, refl, sym, ap, _∙_, subst}
 use mathlib.Core.Bool.{Bool, true, false, cond, _&&_}
 use mathlib.Core.List.{List, [], _∷_, _++_}
-use Prim.Native.Nat.{ℕ, suc, _+_, _≤_, _<_}
+use Prim.Native.Nat.{ℕ, zero, suc, _+_, _≤_, _<_}
 use native.Mathlib.Nat.{zero-add, suc-add}
+use native.Mathlib.Numerals.{add-one}
 use native.Mathlib.Omega.{arith}
 use lib.Dec.{eqb}
 use lib.ListN.{length, take, drop, getD, length-append}
+use lib.Seq.{slice, take-nil, drop-cons}
 use borrow.Author.Tests.{eq-eqb, eqb-true}
 use Rattle.text.specs.Bytes.{Bytes, every, leading, same}
 
@@ -78,3 +80,15 @@ module _ (test : ℕ → Bool) where
   leading-append (b ∷ u) v p =
       let h = both (test b) (every test u) p in
       rw (h .0, suc-add) (ap suc (leading-append u v (h .1)))
+
+-- ---- parts
+
+-- the byte at a place, and what follows it
+pub uncons : (w : Bytes) (i : ℕ) → i < length w → drop i w ≡ getD w i 0 ∷ drop (i + 1) w
+uncons w i h = rw (add-one, drop-cons w i 0)
+
+-- the bytes from `from` on, so many of them
+pub slice-take : (from n : ℕ) (w : Bytes) → slice from (from + n) w ≡ take n (drop from w)
+slice-take zero n w = rw zero-add
+slice-take (suc from) n [] = rw suc-add (sym (take-nil n))
+slice-take (suc from) n (b ∷ w) = rw suc-add (slice-take from n w)

@@ -48,7 +48,7 @@ Within part n =
 opened : {part : Bytes} {b n : ℕ} → b ≡ 37 → Within part n → CommentsEndAt (b ∷ part) (suc n)
 opened {part} {b} {n} p =
     ⊎-elim
-    (λ w. 
+    (λ w.
     let e : b ∷ part ≡ 37 ∷ (w .0 ++ (10 ∷ w .1)) = λ i. p i ∷ w .3 i in
     let m : length (w .0) + 2 + w .2 ≡ suc n = omega (arith, w .6) in
     subst (CommentsEndAt (b ∷ part)) m (line (w .0) (w .1) e (w .4) (w .5)))

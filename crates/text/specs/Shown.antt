@@ -6,11 +6,11 @@ use mathlib.Core.Path.{_≡_}
 use mathlib.Core.Bool.{Bool, cond, _&&_, _||_}
 use Prim.Native.Nat.{ℕ, _+_, _-_, _≤_}
 use lib.Dec.{eqb, ltb}
-use lib.ListN.{length, drop, getD}
+use lib.ListN.{length, getD}
 use lib.Seq.{slice}
 use denote.Ref.{RefT}
-use Rattle.text.specs.Bytes.{Bytes, isSeparator, leading}
-use Rattle.text.specs.Tokens.{isTokenByte}
+use Rattle.text.specs.Bytes.{Bytes, isSeparator}
+use Rattle.text.specs.Tokens.{isTokenByte, tokenEnd}
 
 -- "a token begins there (no separator at it, none but a separator before it)"
 unfoldable pub beginsToken : Bytes → ℕ → Bool
@@ -18,10 +18,6 @@ beginsToken text place =
     ltb place (length text)
     && (isTokenByte (getD text place 0)
     && (eqb place 0 || isSeparator (getD text (place - 1) 0)))
-
--- where the token at a place ends: before the first separator, or at the text's end
-abbrev pub tokenEnd : Bytes → ℕ → ℕ
-tokenEnd text place = place + leading isTokenByte (drop place text)
 
 -- the part that is shown: from where to where it goes, and its bytes
 unfoldable pub shownFrom : Bytes → ℕ → ℕ

@@ -7,7 +7,7 @@ use mathlib.Core.Bool.{Bool, true, false, cond, not}
 use mathlib.Core.List.{List, [], _∷_, _++_}
 use Prim.Native.Nat.{ℕ, _+_, _<_}
 use lib.ListN.{length, drop}
-use Rattle.text.specs.Bytes.{Bytes, isSeparator, every}
+use Rattle.text.specs.Bytes.{Bytes, isSeparator, every, leading}
 use Rattle.text.specs.Comments.{CommentsEndAt, commentsEnd}
 
 -- the place of its first byte in the text, and its bytes
@@ -82,6 +82,10 @@ streamAt size place (b ∷ part) =
 -- the tokens from the byte place `at` of a text on; none from a place past its end
 unfoldable pub rest : Bytes → ℕ → Stream
 rest text at = streamAt (length text) at (drop at text)
+
+-- where the token at a place ends: before the next separator, or at the text's end
+abbrev pub tokenEnd : Bytes → ℕ → ℕ
+tokenEnd text place = place + leading isTokenByte (drop place text)
 
 -- the tokens of a text, after its comments
 unfoldable pub tokensOf : Bytes → List Token

@@ -79,18 +79,18 @@ has-stream size at part (t ∷ ts) h =
 gap-before : (at : ℕ) (b : ℕ) (part : Bytes) (ts : List Token) → isSeparator b ≡ true → HasTokens (at + 1) part ts → HasTokens at (b ∷ part) ts
 gap-before at b part [] e h = rw e h
 gap-before at b part (t ∷ ts) e h =
-    let f = h .1 in
-    ( h .0
-    , record
-        { gap = b ∷ f .gap
-        ; cut = ap (λ (u : Bytes). b ∷ u) (f .cut)
-        ; separators = rw e (f .separators)
-        ; place = omega (arith, f .place)
-        ; not-empty = f .not-empty
-        ; unbroken = f .unbroken
-        ; ended = f .ended
-        }
-    , h .2
+    let f = h .1 in (
+      h .0,
+      record {
+        gap = b ∷ f .gap;
+        cut = ap (λ (u : Bytes). b ∷ u) (f .cut);
+        separators = rw e (f .separators);
+        place = omega (arith, f .place);
+        not-empty = f .not-empty;
+        unbroken = f .unbroken;
+        ended = f .ended;
+      },
+      h .2,
     )
 
 -- a token's byte in front of a part that goes on with the token
@@ -105,19 +105,19 @@ byte-before at b (c ∷ part) (token p w s) e d h = go (f .gap) (f .cut) (f .sep
 
     go : (gap : Bytes) → c ∷ part ≡ gap ++ (w ++ h .0) → every isSeparator gap ≡ true → p ≡ at + 1 + length gap
         → HasTokens at (b ∷ c ∷ part) (record { place = at; bytes = b ∷ w } ∷ listed s)
-    go [] cut gaps place =
-        ( h .0
-        , record
-            { gap = []
-            ; cut = ap (λ (u : Bytes). b ∷ u) cut
-            ; separators = refl
-            ; place = omega arith
-            ; not-empty = zero-lt-suc _
-            ; unbroken = rw e (f .unbroken)
-            ; ended = f .ended
-            }
-        , let n : p + length w ≡ at + suc (length w) = omega (arith, place) in subst (λ (m : ℕ). HasTokens m (h .0) (listed s)) n (h .2)
-        )
+    go [] cut gaps place = (
+      h .0,
+      record {
+        gap = [];
+        cut = ap (λ (u : Bytes). b ∷ u) cut;
+        separators = refl;
+        place = omega arith;
+        not-empty = zero-lt-suc _;
+        unbroken = rw e (f .unbroken);
+        ended = f .ended;
+      },
+      let n : p + length w ≡ at + suc (length w) = omega (arith, place) in subst (λ (m : ℕ). HasTokens m (h .0) (listed s)) n (h .2),
+    )
     go (x ∷ gap) cut gaps place = clash (sym (ap isEnded cut) ∙ d) (both (isSeparator x) _ gaps .0)
 
 -- the tokens worked out are those that the part has
@@ -133,29 +133,29 @@ stream-has size at (b ∷ part) = go (isSeparator b) refl (isEnded part) refl (s
         → HasTokens at (b ∷ part) (listed (cond x s (withByte at b y s)))
     go true e y d h = gap-before at b part (listed s) e h
     go false e false d h = byte-before at b part s e d h
-    go false e true d h =
-        ( part
-        , record
-            { gap = []
-            ; cut = refl
-            ; separators = refl
-            ; place = omega arith
-            ; not-empty = zero-lt-suc _
-            ; unbroken = rw e
-            ; ended = d
-            }
-        , h
-        )
+    go false e true d h = (
+      part,
+      record {
+        gap = [];
+        cut = refl;
+        separators = refl;
+        place = omega arith;
+        not-empty = zero-lt-suc _;
+        unbroken = rw e;
+        ended = d;
+      },
+      h,
+    )
 
 -- ---- the tokens of a text from a place on
 
 -- the text from a place on has these tokens exactly if they are what is left there, with the end after them
 pub has-tokens : (text : Bytes) (at : ℕ) (ts : List Token) → HasTokens at (drop at text) ts ↔ (rest text at ≡ join ts (end (length text)))
 unfolding rest
-has-tokens text at ts =
-    ( has-stream (length text) at (drop at text) ts
-    , λ e. subst (HasTokens at (drop at text)) (ap listed e ∙ listed-join ts (length text)) (stream-has (length text) at (drop at text))
-    )
+has-tokens text at ts = (
+  has-stream (length text) at (drop at text) ts,
+  λ e. subst (HasTokens at (drop at text)) (ap listed e ∙ listed-join ts (length text)) (stream-has (length text) at (drop at text)),
+)
 
 -- what is left at a place is tokens, and the end
 pub rest-is : (text : Bytes) (at : ℕ) → rest text at ≡ join (listed (rest text at)) (end (length text))
@@ -172,11 +172,11 @@ tokens-once at part ts us h k =
 pub text-tokens : (text : Bytes) → TextHasTokens text (tokensOf text)
 unfolding tokensOf rest
 text-tokens text =
-    record
-      { start = commentsEnd text
-      ; comments = comments-end text
-      ; tokens = stream-has (length text) (commentsEnd text) (drop (commentsEnd text) text)
-      }
+    record {
+      start = commentsEnd text;
+      comments = comments-end text;
+      tokens = stream-has (length text) (commentsEnd text) (drop (commentsEnd text) text);
+    }
 
 -- a text has one list of tokens, which is `tokensOf`
 pub text-tokens-only : {text : Bytes} {ts : List Token} → TextHasTokens text ts → ts ≡ tokensOf text
