@@ -4,7 +4,7 @@ use mathlib.Core.Path.{_≡_, refl, sym, ap, _∙_, subst}
 use mathlib.Core.Bool.{Bool, true, false, cond, _&&_}
 use mathlib.Core.List.{List, [], _∷_, _++_}
 use Prim.Native.Nat.{ℕ, zero, suc, _+_, _≤_, _<_}
-use native.Mathlib.Nat.{zero-add, suc-add}
+use native.Mathlib.Nat.{zero-add, suc-add, le-of-suc-le-suc, not-suc-le-zero}
 use native.Mathlib.Numerals.{add-one}
 use native.Mathlib.Omega.{arith}
 use lib.Dec.{eqb}
@@ -65,6 +65,16 @@ module _ (test : ℕ → Bool) where
       go : (x : Bool) → test b ≡ x → every test (take (leading test w) w) ≡ true → every test (take (leading test (b ∷ w)) (b ∷ w)) ≡ true
       go true e ih = simp e ih
       go false e ih = rw e
+
+  pub leading-at : (w : Bytes) (i : ℕ) → i < leading test w → test (getD w i 0) ≡ true
+  leading-at [] i h = absurd (not-suc-le-zero h)
+  leading-at (b ∷ w) i h = go (test b) refl i h (leading-at w)
+    where
+      go : (x : Bool) → test b ≡ x → (k : ℕ) → k < cond x (suc (leading test w)) 0
+          → ((j : ℕ) → j < leading test w → test (getD w j 0) ≡ true) → test (getD (b ∷ w) k 0) ≡ true
+      go true e zero h ih = e
+      go true e (suc k) h ih = ih k (le-of-suc-le-suc h)
+      go false e k h ih = absurd (not-suc-le-zero h)
 
   -- and the next byte does not
   pub leading-stop : (w : Bytes) (b : ℕ) (after : Bytes) → drop (leading test w) w ≡ b ∷ after → test b ≡ false

@@ -76,7 +76,7 @@ module _ (text : Bytes) where
 
   -- the first token from a place on: it begins after the separators there
   module _ (at : ℕ) (h : at + leading isSeparator (drop at text) < length text) where
-    first-at : isTokenByte (getD text (at + leading isSeparator (drop at text)) 0) ≡ true
+    pub first-at : isTokenByte (getD text (at + leading isSeparator (drop at text)) 0) ≡ true
     first-at =
         let n = leading isSeparator (drop at text) in
         let e = drop-drop n at text ∙ uncons text (at + n) h in

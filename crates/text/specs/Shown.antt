@@ -12,12 +12,13 @@ use denote.Ref.{RefT}
 use Rattle.text.specs.Bytes.{Bytes, isSeparator}
 use Rattle.text.specs.Tokens.{isTokenByte, tokenEnd}
 
+-- "none but a separator before it": the place is the start of the text, or a separator stands before it
+abbrev pub followsSeparator : Bytes → ℕ → Bool
+followsSeparator text place = eqb place 0 || isSeparator (getD text (place - 1) 0)
+
 -- "a token begins there (no separator at it, none but a separator before it)"
 unfoldable pub beginsToken : Bytes → ℕ → Bool
-beginsToken text place =
-    ltb place (length text)
-    && (isTokenByte (getD text place 0)
-    && (eqb place 0 || isSeparator (getD text (place - 1) 0)))
+beginsToken text place = ltb place (length text) && (isTokenByte (getD text place 0) && followsSeparator text place)
 
 -- the part that is shown: from where to where it goes, and its bytes
 unfoldable pub shownFrom : Bytes → ℕ → ℕ
