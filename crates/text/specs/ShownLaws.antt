@@ -113,13 +113,13 @@ first-shown text at t s u e = go (ltb from (length text)) refl
         let n = leading isTokenByte (drop from text) in
         let p : from ≡ t .place = cc in
         let w : slice from (tokenEnd text from) text ≡ t .bytes = cc in
-        record
-          { begun = subst (λ (n : ℕ). beginsToken text n ≡ true) p b
-          ; shown = subst (λ (n : ℕ). shownAt text n ≡ t .bytes) p ((λ i. slice (from-begun text from b i) (to-begun text from b i) text) ∙ w)
-          ; after = tokenEnd text from
-          ; again = inr (subst (λ (part : Bytes). isEnded part ≡ true) (drop-drop n from text) (token-ended (drop from text)))
-          ; left = cc
-          }
+        record {
+          begun = subst (λ (n : ℕ). beginsToken text n ≡ true) p b;
+          shown = subst (λ (n : ℕ). shownAt text n ≡ t .bytes) p ((λ i. slice (from-begun text from b i) (to-begun text from b i) text) ∙ w);
+          after = tokenEnd text from;
+          again = inr (subst (λ (part : Bytes). isEnded part ≡ true) (drop-drop n from text) (token-ended (drop from text)));
+          left = cc;
+        }
     go false h = let k = none-left text at (ltb-false from (length text) h) in absurd (let z : _≡_ {A = ℕ} 0 1 = cc in omega arith)
 
 each-shown : (text : Bytes) (before : List Token) (t : Token) (s : Stream) (at : ℕ) → Upon text at
@@ -202,11 +202,11 @@ rest-cut : (text : Bytes) (place : ℕ) → place ≤ length text → followsSep
 unfolding rest
 rest-cut text place h e =
     let front = take place text in
-    let l : 0 + length front ≡ place = omega (arith, length-take-le place text h) in
-    ( listed (streamAt (length text) 0 front)
-    , ap (streamAt (length text) 0) (sym (take-append-drop place text))
-      ∙ stream-cut (length text) 0 front (drop place text) (shut-before text place h e)
-      ∙ ap (λ (n : ℕ). join (listed (streamAt (length text) 0 front)) (streamAt (length text) n (drop place text))) l
+    let l : 0 + length front ≡ place = omega (arith, length-take-le place text h) in (
+      listed (streamAt (length text) 0 front),
+      ap (streamAt (length text) 0) (sym (take-append-drop place text))
+          ∙ stream-cut (length text) 0 front (drop place text) (shut-before text place h e)
+          ∙ ap (λ (n : ℕ). join (listed (streamAt (length text) 0 front)) (streamAt (length text) n (drop place text))) l,
     )
 
 -- where a token begins, what is shown is one of the tokens of the text, comments not regarded
