@@ -1,9 +1,9 @@
 -- Bytes and strings of bytes, as document 01 speaks of them ("Spelling"). A text, a token and a word are lists of bytes.
 -- Assumes nothing.
 use mathlib.Core.Path.{_≡_}
-use mathlib.Core.Bool.{Bool, true, false, _&&_, _||_}
+use mathlib.Core.Bool.{Bool, true, false, cond, _&&_, _||_}
 use mathlib.Core.List.{List, [], _∷_}
-use Prim.Native.Nat.{ℕ, _+_, _-_, _*_}
+use Prim.Native.Nat.{ℕ, suc, _+_, _-_, _*_}
 use lib.Dec.{eqb, leb}
 
 abbrev pub Bytes : Type 0
@@ -25,6 +25,11 @@ isDigit b = leb 48 b && leb b 57
 abbrev pub every : (ℕ → Bool) → Bytes → Bool
 every test [] = true
 every test (b ∷ w) = test b && every test w
+
+-- how many bytes at the start pass the test
+abbrev pub leading : (ℕ → Bool) → Bytes → ℕ
+leading test [] = 0
+leading test (b ∷ w) = cond (test b) (suc (leading test w)) 0
 
 -- "compared byte for byte, case included"
 abbrev pub same : Bytes → Bytes → Bool

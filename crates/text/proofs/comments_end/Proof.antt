@@ -1,0 +1,83 @@
+-- `text::comments_end` meets its contract. The invariant: the comments end where those from `at` on end, as a line begins at `at`.
+-- The measure is what is left of the text.
+-- Assumes nothing.
+use Prim.Native.Nat.{_+_, _-_}
+use mathlib.Core.Path.{_≡_, sym, _∙_}
+use mathlib.Core.Bool.{false}
+use borrow.Author.Needs.{needs}
+use native.Mathlib.Omega.{arith}
+use lib.ListN.{length, drop}
+use Rattle.text.specs.Comments.{commentBytes, commentsEnd}
+use Rattle.text.proofs.Turns.{comment-first, comment-past, comment-none, comment-last, comment-more, end-inside}
+use Rattle.text.proofs.comments_end.Statement.{statement}
+use Rattle.text.proofs.comments_end.Tie as tie
+
+abbrev Inv-loop : tie.InvT-loop
+Inv-loop text at₀ at = at + commentBytes false (drop at text) ≡ commentsEnd text
+
+abbrev μ-loop : tie.MeasureT-loop
+μ-loop text at₀ at = length text - at
+
+loop-holds : tie.Need-loop-holds Inv-loop μ-loop
+loop-holds c = comment-first (c .before .args .text .now)
+
+shared-slice-read-if1 : tie.Need-shared-slice-read-if1 Inv-loop μ-loop
+shared-slice-read-if1 c = search needs
+
+returns : tie.Need-returns Inv-loop μ-loop
+returns c =
+    let l = c .before .before .before in
+    let t = l .before .before .args .text .now in
+    omega (arith, l .loop .inv, comment-none t (l .loop .at) (c .before .before .loop-test .taken) (c .if1 .taken))
+
+run-end-requires : tie.Need-run-end-requires Inv-loop μ-loop
+run-end-requires c κs = search needs
+
+returns-2 : tie.Need-returns-2 Inv-loop μ-loop
+returns-2 c =
+    let i = c .before .before in
+    let l = i .before .before .before in
+    let t = l .before .before .args .text .now in
+    sym (comment-last t (l .loop .at) (i .before .before .loop-test .taken) (i .if1 .left) _ (c .before .run-end .ensures) (c .if2 .taken)) ∙ l .loop .inv
+
+add-at : tie.Need-add-at Inv-loop μ-loop
+add-at c =
+    let i = c .before .before in
+    let l = i .before .before .before in
+    let t = l .before .before .args .text .now in
+    omega (arith, end-inside t (l .loop .at) (i .before .before .loop-test .taken) (i .if1 .left) _ (c .before .run-end .ensures))
+
+loop-less : tie.Need-loop-less Inv-loop μ-loop
+loop-less c =
+    let i = c .before .before in
+    let l = i .before .before .before in
+    let t = l .before .before .args .text .now in
+    omega (arith, end-inside t (l .loop .at) (i .before .before .loop-test .taken) (i .if1 .left) _ (c .before .run-end .ensures))
+
+loop-again : tie.Need-loop-again Inv-loop μ-loop
+loop-again c =
+    let i = c .before .before in
+    let l = i .before .before .before in
+    let t = l .before .before .args .text .now in
+    sym (comment-more t (l .loop .at) (i .before .before .loop-test .taken) (i .if1 .left) _ (c .before .run-end .ensures) (c .if2 .left)) ∙ l .loop .inv
+
+returns-3 : tie.Need-returns-3 Inv-loop μ-loop
+returns-3 c =
+    let l = c .before in
+    omega (arith, l .loop .inv, comment-past (l .before .before .args .text .now) (l .loop .at) (c .loop-test .left))
+
+pub comments-end-spec : {M : Type 1} → statement M
+comments-end-spec =
+    tie.close
+    (tie.spec
+    Inv-loop
+    μ-loop
+    loop-holds
+    shared-slice-read-if1
+    returns
+    run-end-requires
+    returns-2
+    add-at
+    loop-less
+    loop-again
+    returns-3)

@@ -1,0 +1,27 @@
+-- `text::next_token` meets its contract: past the separators a token begins, or the text ends.
+-- Assumes nothing.
+use mathlib.Core.Path.{sym, ap, subst}
+use borrow.Author.Needs.{needs}
+use Rattle.text.specs.Scans.{scanOf}
+use Rattle.text.proofs.Scanning.{scans-token, scans-end}
+use Rattle.text.proofs.next_token.Statement.{statement}
+use Rattle.text.proofs.next_token.Tie as tie
+
+run-end-requires : tie.Need-run-end-requires
+run-end-requires c κs = search needs
+
+run-end-requires-2 : tie.Need-run-end-requires-2
+run-end-requires-2 c κs = search needs
+
+returns : tie.Need-returns
+returns c =
+    let a = c .before .before .before .before .args in
+    scans-token (a .text .now) (a .at) (c .before .before .run-end .ensures) (c .before .if1 .taken) (c .run-end2 .ensures)
+
+returns-2 : tie.Need-returns-2
+returns-2 c =
+    let a = c .before .before .before .args in
+    scans-end (a .text .now) (a .at) (c .before .run-end .ensures) (c .if1 .left)
+
+pub next-token-spec : {M : Type 1} → statement M
+next-token-spec = tie.close (tie.spec run-end-requires run-end-requires-2 returns returns-2)

@@ -1,0 +1,73 @@
+-- `text::show_token` meets its contract: the part from the place to the token's end, or none at the text's end.
+-- Assumes nothing.
+use Prim.Native.Nat.{_≤_}
+use mathlib.Core.Path.{refl, sym, _∙_}
+use borrow.Author.Needs.{needs}
+use native.Mathlib.Omega.{arith}
+use lib.ListN.{length, drop, length-drop}
+use Rattle.text.specs.Tokens.{isTokenByte}
+use Rattle.text.specs.BytesLaws.{leading-le}
+use Rattle.text.specs.ShownLaws.{from-begun, to-begun, begun-inside, from-none, to-none}
+use Rattle.text.proofs.Parts.{part-at}
+use Rattle.text.proofs.show_token.Statement.{statement}
+use Rattle.text.proofs.show_token.Tie as tie
+
+-- a token that begins within the text ends within it
+token-inside : (c : tie.After-run-end) → c .run-end .result ≤ length (c .before .before .before .before .args .text .now)
+token-inside c =
+    let a = c .before .before .before .before .args in
+    let b = sym (c .before .before .begins-token .ensures) ∙ c .before .if1 .taken in
+    omega (arith, c .run-end .ensures, begun-inside (a .text .now) (a .place) b, leading-le isTokenByte (drop (a .place) (a .text .now)), length-drop (a .place) (a .text .now))
+
+begins-token-requires : tie.Need-begins-token-requires
+begins-token-requires c κs = search needs
+
+run-end-requires : tie.Need-run-end-requires
+run-end-requires c κs = search needs
+
+sub-result : tie.Need-sub-result
+sub-result c = search needs
+
+part-result-start : tie.Need-part-result-start
+part-result-start c = search needs
+
+part-result-end : tie.Need-part-result-end
+part-result-end c = token-inside c
+
+sub-result-2 : tie.Need-sub-result-2
+sub-result-2 c = search needs
+
+part-result-start-2 : tie.Need-part-result-start-2
+part-result-start-2 c = search needs
+
+part-result-end-2 : tie.Need-part-result-end-2
+part-result-end-2 c = search needs
+
+returns : tie.Need-returns
+returns c =
+    let r = c .before in
+    let a = r .before .before .before .before .args in
+    let b = sym (r .before .before .begins-token .ensures) ∙ r .before .if1 .taken in
+    part-at (a .place) (r .run-end .result) (from-begun (a .text .now) (a .place) b) (to-begun (a .text .now) (a .place) b ∙ sym (r .run-end .ensures)) (search needs) (token-inside r) refl (omega arith) refl
+
+returns-2 : tie.Need-returns-2
+returns-2 c =
+    let a = c .before .before .before .before .args in
+    let n = length (a .text .now) in
+    let b = sym (c .before .before .begins-token .ensures) ∙ c .before .if1 .left in
+    part-at n n (from-none (a .text .now) (a .place) b) (to-none (a .text .now) (a .place) b) (omega arith) (omega arith) refl (omega arith) refl
+
+pub show-token-spec : {M : Type 1} → statement M
+show-token-spec =
+    tie.close
+    (tie.spec
+    begins-token-requires
+    run-end-requires
+    sub-result
+    part-result-start
+    part-result-end
+    sub-result-2
+    part-result-start-2
+    part-result-end-2
+    returns
+    returns-2)

@@ -1,0 +1,73 @@
+-- `text_cases::tokens_from` meets its contract, which says nothing: the next place fits, and the measure, what is left up to the place
+-- after the end, falls, since the token found lies ahead and within the text.
+-- Assumes nothing.
+use Prim.Native.Nat.{_+_, _-_}
+use mathlib.Core.Path.{sym, _∙_}
+use borrow.Author.Needs.{needs}
+use native.Mathlib.Omega.{arith}
+use lib.ListN.{length}
+use Rattle.text.specs.Scans.{Found}
+use Rattle.text.specs.ScansLaws.{found}
+use Rattle.text_cases.proofs.tokens_from.Statement.{statement}
+use Rattle.text_cases.proofs.tokens_from.Tie as tie
+
+abbrev Inv-loop : tie.InvT-loop
+Inv-loop text at next₀ next = Unit {0}
+
+abbrev μ-loop : tie.MeasureT-loop
+μ-loop text at next₀ next = length text + 1 - next
+
+-- the token that was found
+token-found : (c : tie.After-token Inv-loop μ-loop)
+    → Found (c .before .before .before .before .before .before .before .before .args .text .now) (c .before .before .before .before .before .before .loop .next)
+    (c .before .before .from .given .0 .0) (c .before .before .from .given .0 .1 .0)
+token-found c =
+    let n = c .before .before .before .before in
+    found (n .before .before .before .before .args .text .now) (n .before .before .loop .next) (sym (n .next-token .ensures) ∙ c .before .before .from .given .1)
+
+loop-holds : tie.Need-loop-holds Inv-loop μ-loop
+loop-holds c = search needs
+
+next-token-requires : tie.Need-next-token-requires Inv-loop μ-loop
+next-token-requires c κs = search needs
+
+enum-known-from : tie.Need-enum-known-from Inv-loop μ-loop
+enum-known-from c = search needs
+
+token-requires : tie.Need-token-requires Inv-loop μ-loop
+token-requires c κs = search needs
+
+add-next : tie.Need-add-next Inv-loop μ-loop
+add-next c = omega (arith, token-found c .inside)
+
+loop-less : tie.Need-loop-less Inv-loop μ-loop
+loop-less c = omega (arith, token-found c .ahead, token-found c .not-empty, token-found c .inside)
+
+loop-again : tie.Need-loop-again Inv-loop μ-loop
+loop-again c = search needs
+
+enum-told : tie.Need-enum-told Inv-loop μ-loop
+enum-told c = search needs
+
+returns : tie.Need-returns Inv-loop μ-loop
+returns c = search needs
+
+returns-2 : tie.Need-returns-2 Inv-loop μ-loop
+returns-2 c = search needs
+
+pub tokens-from-spec : {M : Type 1} → statement M
+tokens-from-spec =
+    tie.close
+    (tie.spec
+    Inv-loop
+    μ-loop
+    loop-holds
+    next-token-requires
+    enum-known-from
+    token-requires
+    add-next
+    loop-less
+    loop-again
+    enum-told
+    returns
+    returns-2)
