@@ -1,7 +1,7 @@
 -- Show a token shows the tokens of the text, and nothing else.
 -- Assumes nothing.
 use mathlib.Core.Path.{_≡_, refl, sym, ap, _∙_, subst}
-use mathlib.Core.Bool.{Bool, true, false, cond, not, _&&_, _||_, or-true}
+use mathlib.Core.Bool.{Bool, true, false, cond, or-true}
 use mathlib.Core.List.{List, [], _∷_, _++_}
 use mathlib.Core.Logic.{_⊎_, inl, inr, ⊎-elim}
 use Prim.Native.Nat.{ℕ, zero, suc, _+_, _-_, _≤_, _<_}
@@ -92,7 +92,7 @@ first-begins : (text : Bytes) (at : ℕ) → Upon text at → at + leading isSep
 first-begins text at u h = begins text (at + leading isSeparator (drop at text)) h (first-at text at h) (first-follows text at u h)
 
 -- the first token from there on begins where it stands and is shown there, and after it one can take them up again
-pub record FirstShown (text : Bytes) (t : Token) (s : Stream) : Type 0 where
+record FirstShown (text : Bytes) (t : Token) (s : Stream) : Type 0 where
   pub begun : beginsToken text (t .place) ≡ true
   pub shown : shownAt text (t .place) ≡ t .bytes
   pub after : ℕ

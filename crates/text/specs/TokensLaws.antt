@@ -2,17 +2,17 @@
 -- tokens, and `rest` is that list with the end after it; and so for the whole text and `tokensOf`.
 -- Assumes nothing.
 use mathlib.Core.Path.{_≡_, refl, sym, ap, _∙_, subst}
-use mathlib.Core.Bool.{Bool, true, false, cond, not, _&&_}
+use mathlib.Core.Bool.{Bool, true, false, cond}
 use mathlib.Core.List.{List, [], _∷_, _++_}
 use mathlib.Core.Logic.{_↔_}
-use Prim.Native.Nat.{ℕ, suc, _+_, _≤_, _<_}
+use Prim.Native.Nat.{ℕ, suc, _+_, _<_}
 use native.Mathlib.Nat.{add-zero, not-suc-le-zero, zero-lt-suc}
 use native.Mathlib.Omega.{arith}
 use lib.ListN.{length, drop}
 use borrow.Author.Tests.{not-true}
 use Rattle.text.specs.Bytes.{Bytes, isSeparator, every}
 use Rattle.text.specs.BytesLaws.{clash, both}
-use Rattle.text.specs.Comments.{CommentsEndAt, commentsEnd}
+use Rattle.text.specs.Comments.{commentsEnd}
 use Rattle.text.specs.CommentsLaws.{comments-only, comments-end}
 use Rattle.text.specs.Tokens.{Token, isTokenByte, isEnded, FirstToken, HasTokens, TextHasTokens, Stream, end, token, join, listed, withByte, streamAt, rest, tokensOf}
 
@@ -184,3 +184,12 @@ text-tokens-only {text} {ts} h =
     tokens-once (commentsEnd text) (drop (commentsEnd text) text) ts (tokensOf text)
     (subst (λ (n : ℕ). HasTokens n (drop n text) ts) (comments-only (h .comments)) (h .tokens))
     (subst (λ (n : ℕ). HasTokens n (drop n text) (tokensOf text)) (comments-only (text-tokens text .comments)) (text-tokens text .tokens))
+
+-- a text has these tokens exactly if they are `tokensOf`
+pub text-has-tokens : (text : Bytes) (ts : List Token) → TextHasTokens text ts ↔ (ts ≡ tokensOf text)
+text-has-tokens text ts = (text-tokens-only, λ e. subst (TextHasTokens text) (sym e) (text-tokens text))
+
+-- they are what is left after the comments
+pub rest-tokens : (text : Bytes) → rest text (commentsEnd text) ≡ join (tokensOf text) (end (length text))
+unfolding tokensOf
+rest-tokens text = rest-is text (commentsEnd text)
