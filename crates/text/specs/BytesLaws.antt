@@ -1,14 +1,14 @@
 -- Laws of byte strings: `same` decides equality; `every` and `leading` along a string.
 -- Assumes nothing.
-use mathlib.Core.Path.{_≡_, refl, sym, ap, _∙_, subst}
+use mathlib.Core.Path.{_≡_, refl, sym, subst}
 use mathlib.Core.Bool.{Bool, true, false, cond, _&&_}
-use mathlib.Core.List.{List, [], _∷_, _++_}
+use mathlib.Core.List.{List, [], _∷_}
 use Prim.Native.Nat.{ℕ, zero, suc, _+_, _≤_, _<_}
 use native.Mathlib.Nat.{zero-add, suc-add, le-of-suc-le-suc, not-suc-le-zero}
 use native.Mathlib.Numerals.{add-one}
 use native.Mathlib.Omega.{arith}
 use lib.Dec.{eqb}
-use lib.ListN.{length, take, drop, getD, length-append}
+use lib.ListN.{length, take, drop, getD}
 use lib.Seq.{slice, take-nil, drop-cons}
 use borrow.Author.Tests.{eq-eqb, eqb-true}
 use Rattle.text.specs.Bytes.{Bytes, every, leading, same}
@@ -43,12 +43,6 @@ same-false u v e p = clash e (subst (λ (w : Bytes). same u w ≡ true) p (same-
 -- ---- every, leading
 
 module _ (test : ℕ → Bool) where
-  pub every-append : (u v : Bytes) → every test u ≡ true → every test v ≡ true → every test (u ++ v) ≡ true
-  every-append [] v p q = q
-  every-append (b ∷ u) v p q =
-      let h = both (test b) (every test u) p in
-      rw (h .0) (every-append u v (h .1) q)
-
   pub leading-le : (w : Bytes) → leading test w ≤ length w
   leading-le [] = omega arith
   leading-le (b ∷ w) = go (test b) (leading-le w)
@@ -85,20 +79,14 @@ module _ (test : ℕ → Bool) where
       go true q ih = ih (rw q at e)
       go false q ih = let h : a ∷ w ≡ b ∷ after = rw q at e in let k : a ≡ b = cc in rw (← k) q
 
-  pub leading-append : (u v : Bytes) → every test u ≡ true → leading test (u ++ v) ≡ length u + leading test v
-  leading-append [] v p = rw zero-add
-  leading-append (b ∷ u) v p =
-      let h = both (test b) (every test u) p in
-      rw (h .0, suc-add) (ap suc (leading-append u v (h .1)))
-
 -- ---- parts
 
 -- the byte at a place, and what follows it
 pub uncons : (w : Bytes) (i : ℕ) → i < length w → drop i w ≡ getD w i 0 ∷ drop (i + 1) w
 uncons w i h = rw (add-one, drop-cons w i 0)
 
--- the bytes from `from` on, so many of them
-pub slice-take : (from n : ℕ) (w : Bytes) → slice from (from + n) w ≡ take n (drop from w)
-slice-take zero n w = rw zero-add
+-- the elements from `from` on, so many of them
+pub slice-take : {A : Type 0} (from n : ℕ) (l : List A) → slice from (from + n) l ≡ take n (drop from l)
+slice-take zero n l = rw zero-add
 slice-take (suc from) n [] = rw suc-add (sym (take-nil n))
-slice-take (suc from) n (b ∷ w) = rw suc-add (slice-take from n w)
+slice-take (suc from) n (x ∷ l) = rw suc-add (slice-take from n l)

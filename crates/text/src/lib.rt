@@ -2,7 +2,7 @@
 // number past its end.
 ghost use mathlib.Core.Path.{_≡_};
 ghost use Prim.Native.Nat.{_+_, min};
-ghost use lib.ListN.{length, drop};
+ghost use lib.ListN.{drop};
 ghost use lib.Seq.{slice};
 ghost use Rattle.text.specs.Bytes.{isSeparator, leading, same};
 ghost use Rattle.text.specs.Comments.{commentsEnd};
@@ -180,6 +180,6 @@ pub fn show_token(text: &[u8], place: usize) -> &[u8]
         let to = run_end(text, place, Kind::Token);
         &text[place..to]
     } else {
-        &text[end..]
+        &text[end..end]
     }
 }
