@@ -1,7 +1,7 @@
 -- The grammar of a certificate, VIPR 1.0 as document 01 restates it ("Spelling"): one format for each thing that 01 names, in
 -- 01's order, with the record or the cases that are kept of it.
 -- Assumes nothing.
-use mathlib.Core.Path.{_≡_, refl}
+use mathlib.Core.Path.{_≡_, refl, ap, ap₂}
 use mathlib.Core.Bool.{Bool, true, false, cond, _&&_}
 use mathlib.Core.List.{List, [], _∷_, _++_, map}
 use Prim.Native.Nat.{ℕ, zero, suc, _+_, _-_}
@@ -24,6 +24,11 @@ means w a = record { bytes = w; meaning = a }
 abbrev pub oneOf : {A : Type 0} → (A → ℕ) → List (Word A) → Format A
 oneOf cell words = symbol (choice cell words (λ a. false))
 
+-- a list taken there and back again
+pub map-back : {A B : Type 0} (to : A → B) (from : B → A) → ((a : A) → from (to a) ≡ a) → (xs : List A) → map from (map to xs) ≡ xs
+map-back to from same [] = refl
+map-back to from same (x ∷ xs) = ap₂ _∷_ (same x) (map-back to from same xs)
+
 -- a count, at most this
 abbrev pub countTo : ℕ → Format ℕ
 countTo most = symbol (number (suc most) [])
@@ -40,20 +45,38 @@ newIndexBelow bound used = symbol (number bound used)
 abbrev pub plainValue : Format Fraction
 plainValue = symbol (value [])
 
--- ---- "A term list is a count and that many pairs of variable index and value"
+-- ---- "a count and that many pairs" of an index and a value
 
--- over n variables: "terms 0 to n"; "A variable's index is below n"
-abbrev pub term : ℕ → List Term → Format Term
-term n before =
-    view {A = (i : ℕ) × Fraction} {B = Term}
-    (λ p. record { variable = p .0; coefficient = p .1 }) (λ t. (t .variable, t .coefficient)) (λ p. refl) (λ t. refl)
-    (then (newIndexBelow n (map (λ (t : Term). t .variable) before)) (λ i. plainValue))
+-- an index below the bound, none of those before it, and a value
+pub record Pair : Type 0 where
+  pub index : ℕ
+  pub value : Fraction
+
+abbrev pub pair : ℕ → List Pair → Format Pair
+pair bound before =
+    view {A = (i : ℕ) × Fraction} {B = Pair}
+    (λ p. record { index = p .0; value = p .1 }) (λ p. (p .index, p .value)) (λ p. refl) (λ p. refl)
+    (then (newIndexBelow bound (map (λ (p : Pair). p .index) before)) (λ i. plainValue))
+
+-- at most so many of them as there are indices
+abbrev pub pairList : ℕ → Format ((k : ℕ) × List Pair)
+pairList bound = then (countTo bound) (λ k. items k (pair bound))
+
+-- "A term list is a count and that many pairs of variable index and value", over n variables: "terms 0 to n"; "A variable's
+-- index is below n"
+abbrev pub asTerm : Pair → Term
+asTerm p = record { variable = p .index; coefficient = p .value }
+
+abbrev pub ofTerm : Term → Pair
+ofTerm t = record { index = t .variable; value = t .coefficient }
 
 abbrev pub termList : ℕ → Format TermList
 termList n =
-    view {A = (k : ℕ) × List Term} {B = TermList}
-    (λ p. record { count = p .0; terms = p .1 }) (λ t. (t .count, t .terms)) (λ p. refl) (λ t. refl)
-    (then (countTo n) (λ k. items k (term n)))
+    view {A = (k : ℕ) × List Pair} {B = TermList}
+    (λ p. record { count = p .0; terms = map asTerm (p .1) }) (λ t. (t .count, map ofTerm (t .terms)))
+    (λ p. ap (λ (l : List Pair). (p .0, l)) (map-back asTerm ofTerm (λ x. refl) (p .1)))
+    (λ t. ap (λ (l : List Term). record { count = t .count; terms = l }) (map-back ofTerm asTerm (λ x. refl) (t .terms)))
+    (pairList n)
 
 -- ---- "A row is a name, a sense, a value, then a term list or `OBJ`"
 
@@ -66,31 +89,30 @@ senseCell atLeast = 2
 abbrev pub sense : Format Sense
 sense = oneOf senseCell (means W.E equal ∷ means W.L atMost ∷ means W.G atLeast ∷ [])
 
--- "`OBJ` instead of a term list is 65,535"
--- what follows the count, or the word `OBJ` in its place
+-- what follows the count, or the word `OBJ` in its place: "`OBJ` instead of a term list is 65,535"
 abbrev pub Listed : Or ℕ → Type 0
 Listed instead = Unit {0}
-Listed (given k) = List Term
+Listed (given k) = List Pair
 
 abbrev pub listedTerms : ℕ → (k : Or ℕ) → Format (Listed k)
 listedTerms n instead = nothing
-listedTerms n (given k) = items k (term n)
+listedTerms n (given k) = items k (pair n)
 
 abbrev pub asSide : (k : Or ℕ) × Listed k → Side
 asSide (instead, u) = obj
-asSide (given k, ts) = listed (record { count = k; terms = ts })
+asSide (given k, ps) = listed (record { count = k; terms = map asTerm ps })
 
 abbrev pub ofSide : Side → (k : Or ℕ) × Listed k
 ofSide obj = (instead, tt)
-ofSide (listed t) = (given (t .count), t .terms)
+ofSide (listed t) = (given (t .count), map ofTerm (t .terms))
 
 pub side-there : (x : (k : Or ℕ) × Listed k) → ofSide (asSide x) ≡ x
 side-there (instead, u) = refl
-side-there (given k, ts) = refl
+side-there (given k, ps) = ap (λ (l : List Pair). (given k, l)) (map-back asTerm ofTerm (λ x. refl) ps)
 
 pub side-back : (s : Side) → asSide (ofSide s) ≡ s
 side-back obj = refl
-side-back (listed t) = refl
+side-back (listed t) = ap (λ (l : List Term). listed (record { count = t .count; terms = l })) (map-back ofTerm asTerm (λ x. refl) (t .terms))
 
 abbrev pub side : ℕ → Format Side
 side n = view asSide ofSide side-there side-back (then (symbol (or W.OBJ 65535 (number (suc n) []))) (λ k. listedTerms n k))
@@ -109,18 +131,20 @@ rowNames rows = map (λ (r : Row). r .name .bytes) rows
 -- ---- "A reason is `asm`, `sol`, `uns` with i1 l1 i2 l2, or `lin` or `rnd` with a count and that many pairs of row index and
 -- value"
 
--- for the row with the index own: "multipliers 0 to the row's own index; a named row below its own index"
-abbrev pub multiplier : ℕ → List Multiplier → Format Multiplier
-multiplier own before =
-    view {A = (i : ℕ) × Fraction} {B = Multiplier}
-    (λ p. record { row = p .0; factor = p .1 }) (λ m. (m .row, m .factor)) (λ p. refl) (λ m. refl)
-    (then (newIndexBelow own (map (λ (m : Multiplier). m .row) before)) (λ i. plainValue))
+-- "multipliers 0 to the row's own index; a named row below its own index"
+abbrev pub asMultiplier : Pair → Multiplier
+asMultiplier p = record { row = p .index; factor = p .value }
+
+abbrev pub ofMultiplier : Multiplier → Pair
+ofMultiplier m = record { index = m .row; value = m .factor }
 
 abbrev pub multiplierList : ℕ → Format MultiplierList
 multiplierList own =
-    view {A = (k : ℕ) × List Multiplier} {B = MultiplierList}
-    (λ p. record { count = p .0; multipliers = p .1 }) (λ m. (m .count, m .multipliers)) (λ p. refl) (λ m. refl)
-    (then (countTo own) (λ k. items k (multiplier own)))
+    view {A = (k : ℕ) × List Pair} {B = MultiplierList}
+    (λ p. record { count = p .0; multipliers = map asMultiplier (p .1) }) (λ m. (m .count, map ofMultiplier (m .multipliers)))
+    (λ p. ap (λ (l : List Pair). (p .0, l)) (map-back asMultiplier ofMultiplier (λ x. refl) (p .1)))
+    (λ m. ap (λ (l : List Multiplier). record { count = m .count; multipliers = l }) (map-back ofMultiplier asMultiplier (λ x. refl) (m .multipliers)))
+    (pairList own)
 
 -- i1 l1 i2 l2: "`uns` is no list and may repeat"
 abbrev pub unsplit : ℕ → Format Unsplit
