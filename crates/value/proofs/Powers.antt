@@ -1,13 +1,12 @@
 -- Powers of ten, and numbers below them.
 -- Assumes nothing.
-use mathlib.Core.Path.{_≡_, refl, sym, _∙_, ap, subst}
-use mathlib.Core.Bool.{true, false}
-use Prim.Native.Nat.{ℕ, zero, suc, _+_, _*_, _^_, _≤_, _<_}
-use native.Mathlib.Nat.{pow-suc, pow-le-pow-right, one-le-pow, le-trans, lt-of-lt-of-le, lt-of-le-of-lt, mul-lt-mul-of-pos-right}
+use mathlib.Core.Path.{_≡_, sym, _∙_, ap}
+use Prim.Native.Nat.{ℕ, suc, _+_, _*_, _^_, _≤_, _<_}
+use native.Mathlib.Nat.{pow-suc, pow-le-pow-right, one-le-pow, lt-of-le-of-lt, mul-le-mul, suc-mul, le-refl}
 use native.Mathlib.Numerals.{add-one}
 use native.Mathlib.Omega.{arith}
 use borrow.Author.Tests.{le-leb, lt-leb}
-use lib.Dec.{lit<, lit≤}
+use lib.Dec.{lit<}
 use lib.Pow.{pow-add}
 use Rattle.value.specs.Spelling.{mostDigits}
 use Rattle.value.specs.Promise.{powerOfTen}
@@ -31,9 +30,8 @@ pub power-beyond : (k : ℕ) → mostDigits < k → powerOfTen k ≡ 0
 unfolding powerOfTen
 power-beyond k h = rw (lt-leb k mostDigits h)
 
--- a number below a power, with zeros or a digit after it
-pub zeros-below : (n i j : ℕ) → n < 10 ^ i → n * 10 ^ j < 10 ^ (i + j)
-zeros-below n i j h = rw (pow-add 10 i j) (mul-lt-mul-of-pos-right h (ten-positive j))
-
-pub digit-below : (n i d : ℕ) → n < 10 ^ i → d ≤ 9 → n * 10 + d < 10 ^ (i + 1)
-digit-below n i d h k = omega (arith, ten-next i)
+-- a number below a power, with so many digits after it
+pub appended-below : (n m i j : ℕ) → n < 10 ^ i → m < 10 ^ j → n * 10 ^ j + m < 10 ^ (i + j)
+appended-below n m i j h k =
+    let whole : suc n * 10 ^ j ≤ 10 ^ i * 10 ^ j = mul-le-mul h (le-refl (10 ^ j)) in
+    rw (pow-add 10 i j) (omega (arith, suc-mul n (10 ^ j)))

@@ -4,6 +4,7 @@ use mathlib.Core.Path.{_≡_, refl, sym, _∙_, ap, subst}
 use mathlib.Core.Bool.{Bool, true, false, _&&_}
 use mathlib.Core.List.{List, [], _∷_, _++_}
 use Prim.Native.Nat.{ℕ, _+_, _-_, _*_, _^_, _≤_, _<_}
+use native.Mathlib.Nat.{add-zero}
 use native.Mathlib.Omega.{arith}
 use borrow.Author.Tests.{leb-true}
 use lib.Dec.{leb}
@@ -14,7 +15,7 @@ use Rattle.text.specs.BytesLaws.{both, every-append, leading-le, uncons}
 use Rattle.value.specs.Spelling.{isZero, mostDigits, dropLeading, wholeDigits}
 use Rattle.value.specs.Reading.{digitsOf}
 use Rattle.value.specs.Forms.{Stops, digits-lead, digits-are}
-use Rattle.value.specs.Runs.{Sound, Grown, Settled, Longer, RunRead, Stands, WholeRead}
+use Rattle.value.specs.Runs.{Sound, Grown, Appended, Longer, RunRead, Stands, WholeRead}
 use Rattle.value.specs.declared.Digits.{Digits}
 use Rattle.value.specs.declared.Run.{Run}
 use Rattle.value.proofs.Numbers.{length-more, trailing-number, leading-number, skip-digits, skip-length, length-digits}
@@ -82,9 +83,10 @@ module _ (s : Digits) (t : Bytes) (from : ℕ) (r : Run) (h : RunRead t from s r
   pub run-length : r .digits .count + r .digits .zeros ≡ s .count + leading isDigit t
   run-length = omega (arith, h .grown .counts, h .grown .trails, length-digits t)
 
-  pub run-number : (d : Digits) → Settled (r .digits) d → d .count ≤ mostDigits → d .number ≡ numberAfter (s .number) (digitsOf t)
+  pub run-number : (d : Digits) → Appended (r .digits) (r .digits .zeros) 0 d → d .count ≤ mostDigits → d .number ≡ numberAfter (s .number) (digitsOf t)
   run-number d k small =
       k .spells small
+      ∙ add-zero (r .digits .number * 10 ^ r .digits .zeros)
       ∙ ap (λ (n : ℕ). n * 10 ^ r .digits .zeros) (h .grown .spells (omega (arith, k .counts)))
       ∙ sym (trailing-number (s .number) (r .digits .zeros) (digitsOf t) (h .grown .trails))
 
@@ -102,7 +104,7 @@ module _ (token : Bytes) (from first : ℕ) (f : first ≡ from + leading isZero
   pub whole-short : r .digits .count + r .digits .zeros ≤ length token
   whole-short = omega (arith, run-length s (drop first token) first r h, leading-le isDigit (drop first token), length-drop first token)
 
-  pub whole-read : (d : Digits) → Settled (r .digits) d → WholeRead (drop from token) from (record { digits = d; next = r .next })
+  pub whole-read : (d : Digits) → Appended (r .digits) (r .digits .zeros) 0 d → WholeRead (drop from token) from (record { digits = d; next = r .next })
   whole-read d k =
       let lengths : leading isDigit (drop first token) ≡ wholeDigits whole = sym (length-digits (drop first token)) ∙ ap length skipped in
       let sum : leading isZero (drop from token) + leading isDigit (drop first token) ≡ leading isDigit (drop from token) =

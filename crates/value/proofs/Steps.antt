@@ -1,39 +1,40 @@
--- One digit more, and the zeros at the end counted: the ways out of `Digits::settled` and `Digits::with`.
+-- Digits put after others: the ways out of `Digits::appended` and `Digits::with`.
 -- Assumes nothing.
-use mathlib.Core.Path.{_≡_, refl, sym, _∙_, ap, subst}
-use mathlib.Core.Bool.{true, false}
+use mathlib.Core.Path.{_≡_, refl, sym, _∙_, ap}
+use mathlib.Core.Bool.{false}
 use mathlib.Core.List.{List, [], _∷_, _++_}
 use Prim.Native.Nat.{ℕ, _+_, _-_, _*_, _^_, _≤_, _<_}
-use native.Mathlib.Nat.{lt-trans}
+use native.Mathlib.Nat.{lt-trans, mul-assoc}
 use native.Mathlib.Omega.{arith}
 use borrow.Author.Tests.{ne-eqb}
 use lib.ListN.{length}
 use Rattle.text.specs.Bytes.{Bytes, numberAfter}
 use Rattle.value.specs.Spelling.{isZero, dropTrailing, mostDigits, decimalDigits}
 use Rattle.value.specs.Promise.{powerOfTen}
-use Rattle.value.specs.Runs.{Sound, Grown, Settled, Longer}
+use Rattle.value.specs.Runs.{Grown, Appended, Longer}
 use Rattle.value.specs.declared.Digits.{Digits}
-use Rattle.value.proofs.Powers.{ten-positive, ten-fits, power-within, zeros-below, digit-below}
+use Rattle.value.proofs.Powers.{ten-positive, ten-fits, ten-next, power-within, appended-below}
 use Rattle.value.proofs.Numbers.{number-append, trailing-number, zero-trails, digit-trails, length-more}
 
--- ---- the zeros counted
+-- ---- digits that count
 
-module _ (d : Digits) where
-  pub settled-wide : mostDigits < d .count + d .zeros → Settled d (record { number = 0; count = d .count + d .zeros; zeros = 0 })
-  settled-wide h = record { counts = refl; spells = λ k. absurd (omega arith); none-left = refl; small = ten-positive (d .count + d .zeros) }
+module _ (d : Digits) (places last : ℕ) where
+  pub appended-wide : mostDigits < d .count + places → Appended d places last (record { number = 0; count = d .count + places; zeros = 0 })
+  appended-wide h = record { counts = refl; spells = λ k. absurd (omega arith); none-left = refl; small = ten-positive (d .count + places) }
 
-  module _ (p : ℕ) (e : p ≡ powerOfTen (d .zeros)) (h : d .count + d .zeros ≤ mostDigits) (b : d .number < 10 ^ d .count) where
-    power : p ≡ 10 ^ d .zeros
-    power = e ∙ power-within (d .zeros) (omega arith)
+  -- at most 18: p is the power of ten of their places
+  module _ (p : ℕ) (e : p ≡ powerOfTen places) (h : d .count + places ≤ mostDigits) (b : d .number < 10 ^ d .count) (l : last < 10 ^ places) where
+    power : p ≡ 10 ^ places
+    power = e ∙ power-within places (omega arith)
 
-    below : d .number * p < 10 ^ (d .count + d .zeros)
-    below = rw power (zeros-below (d .number) (d .count) (d .zeros) b)
+    below : d .number * p + last < 10 ^ (d .count + places)
+    below = rw power (appended-below (d .number) last (d .count) places b l)
 
-    pub settled-fits : d .number * p < 2 ^ 64
-    settled-fits = lt-trans below (ten-fits (d .count + d .zeros) h)
+    pub appended-fits : d .number * p + last < 2 ^ 64
+    appended-fits = lt-trans below (ten-fits (d .count + places) h)
 
-    pub settled-narrow : Settled d (record { number = d .number * p; count = d .count + d .zeros; zeros = 0 })
-    settled-narrow = record { counts = refl; spells = λ k. ap (λ (n : ℕ). d .number * n) power; none-left = refl; small = below }
+    pub appended-narrow : Appended d places last (record { number = d .number * p + last; count = d .count + places; zeros = 0 })
+    appended-narrow = record { counts = refl; spells = λ k. ap (λ (n : ℕ). d .number * n + last) power; none-left = refl; small = below }
 
 -- ---- one digit more
 
@@ -52,45 +53,28 @@ longer-zero d digit e b =
     })
 
 -- any other digit counts, and the zeros before it
-module _ (d r : Digits) (digit : ℕ) (z : digit ≡ 0 → ⊥) (t : Settled d r) where
-  abbrev last : ℕ
-  last = 48 + digit
+pub one-place : (digit i : ℕ) → digit ≤ 9 → digit < 10 ^ (i + 1)
+one-place digit i h = omega (arith, ten-next i, ten-positive i)
 
-  not-zero : isZero last ≡ false
-  not-zero = ne-eqb last 48 (λ e. z (omega arith))
+module _ (d : Digits) (digit : ℕ) (z : digit ≡ 0 → ⊥) (r : Digits) (t : Appended d (d .zeros + 1) digit r) where
+  abbrev byte : ℕ
+  byte = 48 + digit
 
-  module _ (s : Digits) (q : Bytes) (g : Grown s q d) where
-    grown-counts : r .count + 1 ≡ s .count + decimalDigits (q ++ (last ∷ []))
-    grown-counts = rw (digit-trails q last not-zero, length-more q last) (omega (arith, t .counts, g .counts, g .trails))
+  not-zero : isZero byte ≡ false
+  not-zero = ne-eqb byte 48 (λ e. z (omega arith))
 
-    grown-trails : 0 + decimalDigits (q ++ (last ∷ [])) ≡ length (q ++ (last ∷ []))
-    grown-trails = rw (digit-trails q last not-zero) (omega arith)
-
-    grown-spells : r .count + 1 ≤ mostDigits → r .number * 10 + digit ≡ numberAfter (s .number) (dropTrailing (q ++ (last ∷ [])))
-    grown-spells k =
+  grown : (s : Digits) (q : Bytes) → Grown s q d → Grown s (q ++ (byte ∷ [])) r
+  grown s q g = record {
+    counts = rw (digit-trails q byte not-zero, length-more q byte) (omega (arith, t .counts, g .counts, g .trails));
+    spells = λ k.
         let before : d .number ≡ numberAfter (s .number) (dropTrailing q) = g .spells (omega (arith, t .counts)) in
-        let all : r .number ≡ numberAfter (s .number) q =
-        t .spells (omega arith) ∙ ap (λ (n : ℕ). n * 10 ^ d .zeros) before ∙ sym (trailing-number (s .number) (d .zeros) q (g .trails)) in
-        rw (digit-trails q last not-zero, number-append (s .number) q (last ∷ []))
-        (ap (λ (n : ℕ). n * 10 + digit) all ∙ omega arith)
-
-  pub longer-wide : mostDigits < r .count + 1 → Longer d digit (record { number = 0; count = r .count + 1; zeros = 0 })
-  longer-wide h = record {
-    by-one = omega (arith, t .counts);
-    small = ten-positive (r .count + 1);
-    grows = λ s q g. record { counts = grown-counts s q g; spells = λ k. absurd (omega arith); trails = grown-trails s q g };
+        let all : d .number * 10 ^ d .zeros ≡ numberAfter (s .number) q =
+        ap (λ (n : ℕ). n * 10 ^ d .zeros) before ∙ sym (trailing-number (s .number) (d .zeros) q (g .trails)) in
+        let next : d .number * 10 ^ (d .zeros + 1) ≡ d .number * 10 ^ d .zeros * 10 =
+        ap (λ (n : ℕ). d .number * n) (sym (ten-next (d .zeros))) ∙ sym (mul-assoc (d .number) (10 ^ d .zeros) 10) in
+        t .spells k ∙ (rw (digit-trails q byte not-zero, number-append (s .number) q (byte ∷ [])) (omega arith));
+    trails = rw (digit-trails q byte not-zero) (omega (arith, t .none-left));
   }
 
-  module _ (h : r .count + 1 ≤ mostDigits) (n : digit ≤ 9) where
-    below-next : r .number * 10 + digit < 10 ^ (r .count + 1)
-    below-next = digit-below (r .number) (r .count) digit (t .small) n
-
-    pub longer-fits : r .number * 10 + digit < 2 ^ 64
-    longer-fits = lt-trans below-next (ten-fits (r .count + 1) h)
-
-    pub longer-narrow : Longer d digit (record { number = r .number * 10 + digit; count = r .count + 1; zeros = 0 })
-    longer-narrow = record {
-      by-one = omega (arith, t .counts);
-      small = below-next;
-      grows = λ s q g. record { counts = grown-counts s q g; spells = grown-spells s q g; trails = grown-trails s q g };
-    }
+  pub longer-digit : Longer d digit r
+  longer-digit = record { by-one = omega (arith, t .counts, t .none-left); small = t .small; grows = grown }

@@ -28,10 +28,10 @@ pub record Grown (s : Digits) (q : Bytes) (d : Digits) : Type 0 where
   pub spells : d .count ≤ mostDigits → d .number ≡ numberAfter (s .number) (dropTrailing q)
   pub trails : d .zeros + decimalDigits q ≡ length q
 
--- r is d with its zeros counted
-pub record Settled (d r : Digits) : Type 0 where
-  pub counts : r .count ≡ d .count + d .zeros
-  pub spells : r .count ≤ mostDigits → r .number ≡ d .number * 10 ^ d .zeros
+-- r is d with so many more digits that count, which spell `last`: the number itself, where at most 18 count then
+pub record Appended (d : Digits) (places last : ℕ) (r : Digits) : Type 0 where
+  pub counts : r .count ≡ d .count + places
+  pub spells : r .count ≤ mostDigits → r .number ≡ d .number * 10 ^ places + last
   pub none-left : r .zeros ≡ 0
   pub small : r .number < 10 ^ r .count
 

@@ -3,7 +3,7 @@
 ghost use mathlib.Core.Path.{_≡_};
 ghost use mathlib.Core.List.{_∷_};
 ghost use mathlib.Core.Option.{some};
-ghost use Prim.Native.Nat.{_+_, _≤_, _<_};
+ghost use Prim.Native.Nat.{_+_, _^_, _≤_, _<_};
 ghost use lib.ListN.{drop};
 ghost use Rattle.integers.specs.Gcd.{gcd as gcdOf};
 ghost use Rattle.integers.specs.Signs.{withSign};
@@ -14,7 +14,7 @@ ghost use Rattle.fraction.specs.Parts.{over};
 ghost use Rattle.value.specs.Spelling.{nothing, isZero};
 ghost use Rattle.value.specs.Reading.{unsignedForm, withTail, tailOf, narrowed, outcomeOf};
 ghost use Rattle.value.specs.Promise.{ValueRead, valueSays, powerOfTen};
-ghost use Rattle.value.specs.Runs.{room, Sound, Settled, Longer, RunRead, WholeRead, Stands, Ended};
+ghost use Rattle.value.specs.Runs.{room, Sound, Appended, Longer, RunRead, WholeRead, Stands, Ended};
 use fraction::Fraction;
 
 // The largest magnitude of a numerator or a denominator, and the most digits that may count.
@@ -73,12 +73,12 @@ impl Digits {
         }
     }
 
-    // The zeros at the end taken as digits that count.
-    fn settled(self) -> Digits
-        requires { ⌜ Sound room self ⌝ }
-        ensures { λ r. ⌜ Settled self r ⌝ }
+    // So many more digits that count, which spell `last`.
+    fn appended(self, places: usize, last: u64) -> Digits
+        requires { ⌜ (self .count + places ≤ room) × (self .number < 10 ^ self .count) × (last < 10 ^ places) ⌝ }
+        ensures { λ r. ⌜ Appended self places last r ⌝ }
     {
-        let count = self.count + self.zeros;
+        let count = self.count + places;
         if count > MOST_DIGITS {
             return Digits {
                 number: 0,
@@ -87,7 +87,7 @@ impl Digits {
             };
         }
         Digits {
-            number: self.number * power_of_ten(self.zeros),
+            number: self.number * power_of_ten(places) + last,
             count,
             zeros: 0,
         }
@@ -95,7 +95,7 @@ impl Digits {
 
     // One digit more.
     fn with(self, digit: u64) -> Digits
-        requires { ⌜ Sound room self × (digit ≤ 9) ⌝ }
+        requires { ⌜ (self .count + self .zeros < room) × (self .number < 10 ^ self .count) × (digit ≤ 9) ⌝ }
         ensures { λ r. ⌜ Longer self digit r ⌝ }
     {
         if digit == 0 {
@@ -105,20 +105,7 @@ impl Digits {
                 zeros: self.zeros + 1,
             };
         }
-        let s = self.settled();
-        let count = s.count + 1;
-        if count > MOST_DIGITS {
-            return Digits {
-                number: 0,
-                count,
-                zeros: 0,
-            };
-        }
-        Digits {
-            number: s.number * 10 + digit,
-            count,
-            zeros: 0,
-        }
+        self.appended(self.zeros + 1, digit)
     }
 }
 
@@ -170,7 +157,7 @@ fn read_whole(token: &[u8], from: usize) -> Run
     let run = read_run(token, first, Digits::none());
     let digits = run.digits;
     Run {
-        digits: digits.settled(),
+        digits: digits.appended(digits.zeros, 0),
         next: run.next,
     }
 }

@@ -44,7 +44,7 @@ cast-with c = omega (arith, digit-bounds _ (is-digit c) .1)
 with-requires : tie.Need-with-requires Inv-loop μ-loop
 with-requires c κs =
     let h = at-loop c .loop .inv .sound in
-    (record { short = omega (arith, h .short); small = h .small }, omega (arith, digit-bounds _ (is-digit c) .1))
+    (omega (arith, h .short), h .small, omega (arith, digit-bounds _ (is-digit c) .1))
 
 add-at : tie.Need-add-at Inv-loop μ-loop
 add-at c = omega arith
