@@ -1,0 +1,109 @@
+-- The outcome of a written form, by what the code has read of its parts.
+-- Assumes nothing.
+use mathlib.Core.Path.{_≡_, refl, sym, _∙_, ap, subst}
+use mathlib.Core.Bool.{Bool, true, false, not, _&&_}
+use mathlib.Core.List.{List, [], _∷_, _++_}
+use mathlib.Core.Option.{Option, none, some}
+use Prim.Native.Nat.{ℕ, _+_, _-_, _*_, _^_, _≤_, _<_}
+use native.Mathlib.Omega.{arith}
+use borrow.Author.Tests.{lt-ltb, le-ltb, ne-eqb}
+use lib.ListN.{length}
+use lib.Pow.{pow-add}
+use Rattle.integers.specs.Signs.{withSign}
+use Rattle.text.specs.Bytes.{Bytes, isDigit, every, leading, isNumeral, numberAfter, numberOf}
+use Rattle.fraction.specs.Outcome.{Outcome, gives, refuses}
+use Rattle.fraction.specs.Quotient.{Quotient, lowest}
+use Rattle.fraction.specs.Parts.{over}
+use Rattle.fraction.specs.declared.Fraction.{Fraction}
+use Rattle.value.specs.Spelling.{Tail, nothing, point, slash, Written, isZero, quotientOf, mostDigits, wholeDigits, decimalDigits, dropTrailing}
+use Rattle.value.specs.Reading.{digitsOf, afterDigits, tailOf, withTail, unsignedForm, narrowed, outcomeOf}
+use Rattle.value.specs.Forms.{by-test, numeral-digits}
+use Rattle.value.specs.Agreement.{number-positive}
+use Rattle.value.specs.Promise.{powerOfTen}
+use Rattle.value.specs.Runs.{Grown, Stands}
+use Rattle.value.specs.declared.Digits.{Digits}
+use Rattle.value.proofs.Powers.{ten-positive, power-within}
+use Rattle.value.proofs.Numbers.{number-append, trailing-number, decimal-le, leading-none, leading-some}
+use Rattle.value.proofs.Widths.{lowest-whole, lowest-scaled}
+
+-- the power of ten for the digits of a decimal part that are no trailing zeros
+module _ (d : Digits) (t : Bytes) (r : Digits) (g : Grown d t r) (k : r .count ≤ mostDigits) (p : ℕ) (q : p ≡ powerOfTen (length t - r .zeros)) where
+  decimal-power : p ≡ 10 ^ decimalDigits t
+  decimal-power =
+      let places : length t - r .zeros ≡ decimalDigits t = omega (arith, g .trails) in
+      q ∙ ap powerOfTen places ∙ power-within (decimalDigits t) (omega (arith, g .counts))
+
+  pub decimal-positive : 0 < p
+  decimal-positive = rw decimal-power (ten-positive (decimalDigits t))
+
+-- a denominator that is not all zero
+module _ (t : Bytes) (r : Digits) (g : Stands t r) (n : r .count ≡ 0 → ⊥) where
+  not-all-zero : every isZero t ≡ false
+  not-all-zero = leading-some t (omega (arith, g .counts))
+
+  pub slash-positive : isNumeral t ≡ true → r .count ≤ mostDigits → 0 < r .number
+  slash-positive e l = rw (g .spells l) (number-positive 0 t (numeral-digits t e) not-all-zero)
+
+module _ (s : Bool) (w : Bytes) (d : Digits) (h : Stands w d) where
+  -- ---- a whole number
+
+  pub whole-wide : mostDigits < d .count → outcomeOf (withTail s w (some nothing)) ≡ refuses 7
+  unfolding outcomeOf
+  whole-wide k = rw (lt-ltb mostDigits (wholeDigits w) (omega (arith, h .counts)))
+
+  pub whole-narrow : d .count ≤ mostDigits → outcomeOf (withTail s w (some nothing)) ≡ narrowed (over (withSign s (d .number)) 1)
+  unfolding outcomeOf quotientOf
+  whole-narrow k =
+      rw (le-ltb mostDigits (wholeDigits w) (omega (arith, h .counts)), lowest-whole s (numberOf w), h .spells k)
+
+  -- ---- a decimal
+
+  module _ (t : Bytes) where
+    pub decimal-misspelled : isNumeral t ≡ false → outcomeOf (withTail s w (tailOf (46 ∷ t))) ≡ refuses 4
+    unfolding outcomeOf
+    decimal-misspelled e = rw e
+
+    module _ (e : isNumeral t ≡ true) (r : Digits) (g : Grown d t r) where
+      pub decimal-wide : mostDigits < r .count → outcomeOf (withTail s w (tailOf (46 ∷ t))) ≡ refuses 7
+      unfolding outcomeOf
+      decimal-wide k = rw (e, lt-ltb mostDigits (wholeDigits w + decimalDigits t) (omega (arith, h .counts, g .counts)))
+
+      module _ (k : r .count ≤ mostDigits) (p : ℕ) (q : p ≡ powerOfTen (length t - r .zeros)) where
+        pub decimal-narrow : outcomeOf (withTail s w (tailOf (46 ∷ t))) ≡ narrowed (lowest (over (withSign s (r .number)) p))
+        unfolding outcomeOf quotientOf
+        decimal-narrow =
+            let top : numberOf (w ++ t) ≡ r .number * 10 ^ r .zeros =
+            number-append 0 w t
+            ∙ ap (λ (n : ℕ). numberAfter n t) (sym (h .spells (omega (arith, g .counts))))
+            ∙ trailing-number (d .number) (r .zeros) t (g .trails)
+            ∙ ap (λ (n : ℕ). n * 10 ^ r .zeros) (sym (g .spells k)) in
+            let bottom : 10 ^ length t ≡ 10 ^ r .zeros * 10 ^ decimalDigits t = ap (λ (n : ℕ). 10 ^ n) (sym (g .trails)) ∙ pow-add 10 (r .zeros) (decimalDigits t) in
+            rw (e, le-ltb mostDigits (wholeDigits w + decimalDigits t) (omega (arith, h .counts, g .counts)), top, bottom, decimal-power d t r g k p q)
+            (ap narrowed (lowest-scaled s (r .number) (10 ^ decimalDigits t) (10 ^ r .zeros) (ten-positive (decimalDigits t)) (ten-positive (r .zeros))))
+
+    -- ---- a quotient
+
+    pub slash-misspelled : isNumeral t ≡ false → outcomeOf (withTail s w (tailOf (47 ∷ t))) ≡ refuses 4
+    unfolding outcomeOf
+    slash-misspelled e = rw e
+
+    module _ (e : isNumeral t ≡ true) (r : Digits) (g : Stands t r) where
+      pub slash-zero : r .count ≡ 0 → outcomeOf (withTail s w (tailOf (47 ∷ t))) ≡ refuses 4
+      unfolding outcomeOf
+      slash-zero k = rw (e, leading-none t (omega (arith, g .counts)))
+
+      module _ (n : r .count ≡ 0 → ⊥) where
+        pub slash-wide-num : mostDigits < d .count → outcomeOf (withTail s w (tailOf (47 ∷ t))) ≡ refuses 7
+        unfolding outcomeOf
+        slash-wide-num k = rw (e, not-all-zero t r g n, lt-ltb mostDigits (wholeDigits w) (omega (arith, h .counts)))
+
+        module _ (k : d .count ≤ mostDigits) where
+          pub slash-wide-den : mostDigits < r .count → outcomeOf (withTail s w (tailOf (47 ∷ t))) ≡ refuses 7
+          unfolding outcomeOf
+          slash-wide-den l =
+              rw (e, not-all-zero t r g n, le-ltb mostDigits (wholeDigits w) (omega (arith, h .counts)), lt-ltb mostDigits (wholeDigits t) (omega (arith, g .counts)))
+
+          pub slash-narrow : r .count ≤ mostDigits → outcomeOf (withTail s w (tailOf (47 ∷ t))) ≡ narrowed (lowest (over (withSign s (d .number)) (r .number)))
+          unfolding outcomeOf quotientOf
+          slash-narrow l =
+              rw (e, not-all-zero t r g n, le-ltb mostDigits (wholeDigits w) (omega (arith, h .counts)), le-ltb mostDigits (wholeDigits t) (omega (arith, g .counts)), h .spells k, g .spells l)
