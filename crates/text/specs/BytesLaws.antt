@@ -2,7 +2,7 @@
 -- Assumes nothing.
 use mathlib.Core.Path.{_≡_, refl, sym, subst}
 use mathlib.Core.Bool.{Bool, true, false, cond, _&&_}
-use mathlib.Core.List.{List, [], _∷_}
+use mathlib.Core.List.{List, [], _∷_, _++_}
 use Prim.Native.Nat.{ℕ, zero, suc, _+_, _≤_, _<_}
 use native.Mathlib.Nat.{zero-add, suc-add, le-of-suc-le-suc, not-suc-le-zero}
 use native.Mathlib.Numerals.{add-one}
@@ -43,6 +43,12 @@ same-false u v e p = clash e (subst (λ (w : Bytes). same u w ≡ true) p (same-
 -- ---- every, leading
 
 module _ (test : ℕ → Bool) where
+  pub every-append : (u v : Bytes) → every test u ≡ true → every test v ≡ true → every test (u ++ v) ≡ true
+  every-append [] v p q = q
+  every-append (b ∷ u) v p q =
+      let h = both (test b) (every test u) p in
+      rw (h .0) (every-append u v (h .1) q)
+
   pub leading-le : (w : Bytes) → leading test w ≤ length w
   leading-le [] = omega arith
   leading-le (b ∷ w) = go (test b) (leading-le w)
@@ -78,6 +84,12 @@ module _ (test : ℕ → Bool) where
       go : (x : Bool) → test a ≡ x → (drop (leading test w) w ≡ b ∷ after → test b ≡ false) → test b ≡ false
       go true q ih = ih (rw q at e)
       go false q ih = let h : a ∷ w ≡ b ∷ after = rw q at e in let k : a ≡ b = cc in rw (← k) q
+
+  pub leading-append : (u v : Bytes) → every test u ≡ true → leading test (u ++ v) ≡ length u + leading test v
+  leading-append [] v p = rw zero-add
+  leading-append (b ∷ u) v p =
+      let h = both (test b) (every test u) p in
+      rw (h .0, suc-add) (ap suc (leading-append u v (h .1)))
 
 -- ---- parts
 

@@ -120,7 +120,7 @@ pub fn line_of(text: &[u8], place: usize) -> usize
 }
 
 // The part from .. to of the text, as far as the text goes.
-fn part(text: &[u8], from: usize, to: usize) -> &[u8]
+pub fn part(text: &[u8], from: usize, to: usize) -> &[u8]
     ensures { λ r. ⌜ now r ≡ slice from to (now (text .entry)) ⌝ }
 {
     let end = least(to, text.len());
