@@ -5,10 +5,11 @@
  *
  * Each function returns one of these numbers:
  *
- *     FRACTION_OK           0   the result is stored where the pointers point
- *     FRACTION_NOT          4   an operand is no fraction: 2/4, 0/5, a denominator of 0 or below, a numerator of -2147483648
- *     FRACTION_TOO_WIDE    12   the operands are fractions, and no fraction equals their product or sum: in lowest terms the
- *                               magnitude of its numerator, or its denominator, is above 2,147,483,647
+ *     FRACTION_OK               0   the result is stored where the pointers point
+ *     FRACTION_NOT_A_FRACTION   4   an operand is no fraction: 2/4, 0/5, a denominator of 0 or below, a numerator of
+ *                                   -2147483648
+ *     FRACTION_TOO_WIDE        12   the operands are fractions, and no fraction equals their product or sum: in lowest terms
+ *                                   the magnitude of its numerator, or its denominator, is above 2,147,483,647
  *
  * 4 is tested before 12. Only products and sums give 12. With 4 and 12 nothing is stored: what the pointers point to is
  * unchanged. A result is a fraction again, so it can be passed on as it is.
@@ -29,7 +30,7 @@ extern "C" {
 #endif
 
 #define FRACTION_OK 0
-#define FRACTION_NOT 4
+#define FRACTION_NOT_A_FRACTION 4
 #define FRACTION_TOO_WIDE 12
 
 /* num/den = a_num/a_den * b_num/b_den, exactly, in lowest terms. Returns 0, 4 or 12. */
