@@ -1,0 +1,5 @@
+-- Laws that the proofs of reading cite: runs of stores, the composition of readings, what tokens mean.
+mod Tables
+mod Laws
+mod Decoding
+mod Turns
