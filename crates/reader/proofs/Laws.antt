@@ -5,6 +5,7 @@ use mathlib.Core.List.{List, [], _∷_, _++_}
 use mathlib.Core.Bool.{Bool, true, false, not}
 use Prim.Native.Nat.{ℕ, zero, suc, _+_, _-_, _*_, _≤_, _<_, _^_}
 use native.Mathlib.Nat.{add-zero, sub-zero}
+use native.Mathlib.Numerals.{add-one}
 use native.Mathlib.Omega.{arith}
 use lib.IntN.{ℤ}
 use mir.Syntax.{w64}
@@ -19,13 +20,14 @@ use Rattle.text.specs.declared.Scan.{Scan}
 use Rattle.text.specs.declared.Scan.the-variants as scan
 use Rattle.fraction.specs.Outcome.{gives, refuses}
 use Rattle.fraction.specs.declared.Fraction.{Fraction}
-use Rattle.grammar.specs.Format.{Symbol, value, Format, symbol, then, items, nothing, view}
+use Rattle.grammar.specs.Format.{Symbol, number, value, Format, symbol, then, items, nothing, view}
+use Rattle.grammar.specs.Certificate.{countTo}
 use Rattle.grammar.specs.Reading.{Read, got, stopped, onward, decode, readSymbol, readItems, read}
 use Rattle.grammar.specs.Layout.{symbolCells, symbolValues, symbolMarks, gather, gatherItems, cells, values, Mark, marks}
 use Rattle.grammar.specs.Tables.{byTurns, rowOf, laid}
 use Rattle.grammar.specs.Refusals.{refusalNumber}
 use Rattle.grammar.specs.declared.Refusal.{Refusal}
-use Rattle.reader.specs.Steps.{State, state, IndexRoom, ValueRoom, RowRoom, Room, oneOf, tokens, nameAt, Named, Went, Stopped, Answers, Reads}
+use Rattle.reader.specs.Steps.{State, state, IndexRoom, ValueRoom, RowRoom, Room, oneOf, tokens, nameAt, Named, Went, Stopped, any, the, Answers, Reads}
 use Rattle.reader.specs.declared.Cursor.{Cursor}
 use Rattle.reader.specs.declared.Step.{Step}
 use Rattle.reader.specs.declared.Step.the-variants.{Next, Stop}
@@ -52,6 +54,9 @@ module _ {A : Type 0} {f : Format A} {told : A → ℕ → Type 0} {text : Bytes
   -- an answer that is handed on as it stands, where it is known to be a refusal
   pub reads-on : {r : Step} {q : Refusal} {p : ℕ} → r ≡ Stop q p → Stopped f text s (refusalNumber q) p → Reads f told text s ix vs rs r
   reads-on e h = record { is = subst (λ (x : Step). Answers f told text s ix vs rs x) (sym e) h }
+
+pub room-of : {text : Bytes} {c : Cursor} {ix : List ℕ} {vs : List ℤ} {rs : List ℕ} → IndexRoom text c ix → ValueRoom text c vs → RowRoom rs → Room text (state c ix vs rs)
+room-of i v r = record { of-index = i; of-values = v; of-rows = r }
 
 -- ---- then
 
@@ -104,6 +109,9 @@ module _ {A : Type 0} {B : A → Type 0} {f : Format A} {g : (a : A) → Format 
         by (Next n c) w = ((a, w .0), same (w .0) n (w .1), then-went (w .2))
         by (Stop q p) e = then-stops e
 
+    pub then-any : {told : B a → ℕ → Type 0} {ix : List ℕ} {vs : List ℤ} {rs : List ℕ} {r : Step} → Reads (g a) told text t ix vs rs r → Reads (then f g) any text s ix vs rs r
+    then-any k = then-reads {tells = any} (λ b n h. tt) k
+
 -- ---- nothing
 
 pub nothing-went : {text : Bytes} {s : State} → Room text s → Went nothing tt text s s
@@ -151,6 +159,9 @@ module _ {A B : Type 0} {to : A → B} {from : B → A} {p : (a : A) → from (t
       by : (x : Step) → Answers f told text s ix vs rs x → Answers (view to from p q f) tells text s ix vs rs x
       by (Next n c) w = (to (w .0), same (w .0) n (w .1), view-went (w .2))
       by (Stop r m) e = view-stop e
+
+  pub view-any : {told : A → ℕ → Type 0} {ix : List ℕ} {vs : List ℤ} {rs : List ℕ} {r : Step} → Reads f told text s ix vs rs r → Reads (view to from p q f) any text s ix vs rs r
+  view-any k = view-reads {tells = any} (λ a n h. tt) k
 
 -- ---- a symbol, found as the token from f to t
 
@@ -466,3 +477,13 @@ value-stops {n} {text} {s} h = record { refuses = value-reads (n ∷ []) [] (res
 pub inside-after : {A : Type 0} {y : Symbol A} {a : A} {text : Bytes} {s t : State} → Went (symbol y) a text s t → IndexRoom text (s .cursor) (s .index) → s .cursor .cells < length (s .index)
 unfolding gather
 inside-after h r = omega (arith, h .ahead, h .room .of-index .inside, r .short, r .cells-fit, r .index-long)
+
+-- ---- counts: the code's bound is one more than the most
+
+pub count-to : (most : ℕ) {text : Bytes} {s : State} {ix : List ℕ} {vs : List ℤ} {rs : List ℕ} {r : Step}
+    → Reads (symbol (number (most + 1) [])) (the (λ n. n)) text s ix vs rs r → Reads (countTo most) (the (λ n. n)) text s ix vs rs r
+count-to most {text} {s} {ix} {vs} {rs} {r} h = subst (λ (b : ℕ). Reads (symbol (number b [])) (the (λ n. n)) text s ix vs rs r) (add-one most) h
+
+-- what was kept is the number that was handed back
+pub the-number : {f : Format ℕ} {n : ℕ} {text : Bytes} {s t : State} → (a : ℕ) × (a ≡ n) × Went f a text s t → Went f n text s t
+the-number {f} {n} {text} {s} {t} h = subst (λ (a : ℕ). Went f a text s t) (h .1) (h .2)

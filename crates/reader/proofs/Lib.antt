@@ -3,3 +3,4 @@ mod Tables
 mod Laws
 mod Decoding
 mod Turns
+mod Listed

@@ -1,3 +1,4 @@
 -- What reading one token promises, in reading order.
 pub mod Steps
 pub mod Leaves
+pub mod Parts

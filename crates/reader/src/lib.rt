@@ -1,6 +1,7 @@
 // Read a certificate: a text and three lent tables to filled tables, or a refusal.
 use grammar::Refusal;
 
+mod lists;
 mod symbols;
 
 // Where the reading stands: a place in the text, and how many index cells and values are written.
