@@ -4,3 +4,5 @@ mod Laws
 mod Decoding
 mod Turns
 mod Listed
+mod Alternatives
+mod Choices

@@ -1,7 +1,10 @@
 // Read a certificate: a text and three lent tables to filled tables, or a refusal.
 use grammar::Refusal;
 
+mod derivations;
 mod lists;
+mod rows;
+mod sections;
 mod symbols;
 
 // Where the reading stands: a place in the text, and how many index cells and values are written.
