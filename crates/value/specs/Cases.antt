@@ -3,10 +3,9 @@
 -- Assumes nothing.
 use mathlib.Core.Path.{_≡_, refl}
 use mathlib.Core.List.{List, [], _∷_}
-use Prim.Native.Nat.{ℕ}
 use Prim.Native.Char.{code}
 use Prim.Native.String.{String, [] as empty, _∷_ as _before_}
-use lib.IntN.{ℤ, pos, negsuc}
+use lib.IntN.{ℤ, pos, negℤ}
 use Rattle.integers.specs.Gcd.{gcd, euclid}
 use Rattle.text.specs.Bytes.{Bytes, isDigit}
 use Rattle.fraction.specs.Outcome.{Outcome, gives, refuses}
@@ -16,7 +15,7 @@ use Rattle.fraction.specs.declared.Fraction.{Fraction}
 use Rattle.value.specs.Spelling.{quotientOf}
 use Rattle.value.specs.Reading.{narrowed, outcomeOf, readValue}
 
--- the bytes of a token that is given in quotes
+-- the bytes of a token that is given in quotes, of ASCII characters
 abbrev pub ascii : String → Bytes
 ascii empty = []
 ascii (c before s) = code c ∷ ascii s
@@ -59,9 +58,9 @@ cases =
     -- "`1/0` 4"
     ∷ reads "1/0" (refuses 4)
     -- "floor(-1/2) = -1"
-    ∷ floors (negsuc 0 over pos 2) (gives (negsuc 0))
+    ∷ floors (negℤ (pos 1) over pos 2) (gives (negℤ (pos 1)))
     -- "ceiling(-1/2) = 0"
-    ∷ ceilings (negsuc 0 over pos 2) (gives (pos 0))
+    ∷ ceilings (negℤ (pos 1) over pos 2) (gives (pos 0))
     -- "1/65536 times 1/32768 is 12"
     ∷ products (pos 1 over pos 65536) (pos 1 over pos 32768) (refuses 12)
     ∷ []
