@@ -44,7 +44,7 @@ lowest x =
     let g = gcd (natAbs (x .top)) (x .bottom) in
     record { top = quotZ (x .top) (pos g); bottom = x .bottom / g }
 
--- z / d rounded down: for z below 0, that is -(n + 1), one more than n / d below 0
+-- z / d rounded down; negsuc n is -(n + 1), which rounds down to -(n / d + 1)
 unfoldable pub floorZ : ℤ → ℕ → ℤ
 floorZ (pos n) d = pos (n / d)
 floorZ (negsuc n) d = negsuc (n / d)

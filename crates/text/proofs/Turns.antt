@@ -1,19 +1,19 @@
 -- What one turn of each loop does to the definition that the loop works out.
 -- Assumes nothing.
-use mathlib.Core.Path.{_≡_, refl, sym, ap, _∙_, subst}
-use mathlib.Core.Bool.{Bool, true, false, cond, not, _&&_}
-use mathlib.Core.List.{List, [], _∷_, _++_}
-use Prim.Native.Nat.{ℕ, zero, suc, _+_, _≤_, _<_, min}
+use mathlib.Core.Path.{_≡_, refl, sym, ap, _∙_}
+use mathlib.Core.Bool.{Bool, true, false, cond, _&&_}
+use mathlib.Core.List.{[], _∷_, _++_}
+use Prim.Native.Nat.{ℕ, suc, _+_, _≤_, _<_, min}
 use native.Mathlib.Nat.{zero-add}
 use native.Mathlib.Numerals.{add-one}
 use native.Mathlib.Omega.{arith}
 use lib.Dec.{eqb}
 use lib.ListN.{length, take, drop, getD, drop-of-length-le, length-drop, take-append-drop}
-use lib.Seq.{take-suc, take-all, drop-drop, drop-length, length-take-le}
+use lib.Seq.{take-suc, drop-drop, length-take-le}
 use borrow.Author.Tests.{eq-eqb, ne-eqb}
-use Rattle.text.specs.Bytes.{Bytes, leading, same, every}
+use Rattle.text.specs.Bytes.{Bytes, leading, same}
 use Rattle.text.specs.BytesLaws.{uncons, leading-le, leading-every, leading-stop}
-use Rattle.text.specs.Comments.{isLineFeed, isLineByte, isPercent, commentBytes, commentsEnd}
+use Rattle.text.specs.Comments.{isLineFeed, isLineByte, commentBytes, commentsEnd}
 use Rattle.text.specs.CommentsLaws.{within-line}
 use Rattle.text.specs.Lines.{lineFeeds, lineOf}
 use Rattle.text.proofs.Parts.{take-least}
@@ -87,42 +87,48 @@ module _ (text : Bytes) (at : ℕ) where
   pub comment-past : length text ≤ at → commentBytes false (drop at text) ≡ 0
   comment-past h = rw (drop-of-length-le text h)
 
-  module _ (h : at < length text) where
-    pub comment-none : (getD text at 0 ≡ 37 → ⊥) → commentBytes false (drop at text) ≡ 0
-    comment-none e = rw (uncons text at h, ne-eqb (getD text at 0) 37 e)
+  pub comment-none : at < length text → (getD text at 0 ≡ 37 → ⊥) → commentBytes false (drop at text) ≡ 0
+  comment-none h e = rw (uncons text at h, ne-eqb (getD text at 0) 37 e)
 
-    module _ (e : getD text at 0 ≡ 37) (end : ℕ) (is : end ≡ at + leading isLineByte (drop at text)) where
-      -- the line goes to `end`, and `%` is one of its bytes
-      within : at + commentBytes false (drop at text) ≡ end + commentBytes true (drop end text)
-      within =
-          let part = drop at text in
-          let n = leading isLineByte part in
-          let line : commentBytes false part ≡ commentBytes true part = rw (uncons text at h, e) in
-          let cut : commentBytes true part ≡ length (take n part) + commentBytes true (drop n part) =
-          ap (commentBytes true) (sym (take-append-drop n part)) ∙ within-line (take n part) (drop n part) (leading-every isLineByte part)
-          in
-          let size : length (take n part) ≡ n = length-take-le n part (leading-le isLineByte part) in
-          let tail : commentBytes true (drop n part) ≡ commentBytes true (drop end text) =
-          ap (commentBytes true) (drop-drop n at text ∙ ap (λ (k : ℕ). drop k text) (sym is))
-          in
-          omega (arith, line, cut, size, tail)
+-- the line that begins at `at` begins with `%`, and its bytes go to `end`
+pub record CommentLine (text : Bytes) (at end : ℕ) : Type 0 where
+  pub inside : at < length text
+  pub percent : getD text at 0 ≡ 37
+  pub goes-to : end ≡ at + leading isLineByte (drop at text)
 
-      pub end-inside : end ≤ length text
-      end-inside = omega (arith, leading-le isLineByte (drop at text), length-drop at text)
+module _ {text : Bytes} {at end : ℕ} (l : CommentLine text at end) where
+  rest-of-line : drop (leading isLineByte (drop at text)) (drop at text) ≡ drop end text
+  rest-of-line = drop-drop (leading isLineByte (drop at text)) at text ∙ ap (λ (n : ℕ). drop n text) (sym (l .goes-to))
 
-      -- it ends with the text
-      pub comment-last : end ≡ length text → at + commentBytes false (drop at text) ≡ end
-      comment-last q =
-          let past : length text ≤ end = omega arith in
-          let none : commentBytes true (drop end text) ≡ 0 = rw (drop-of-length-le text past) in
-          omega (arith, within, none)
+  -- all of it is comment: `%` is a byte of the line too
+  whole-line : at + commentBytes false (drop at text) ≡ end + commentBytes true (drop end text)
+  whole-line =
+      let part = drop at text in
+      let n = leading isLineByte part in
+      let same : commentBytes false part ≡ commentBytes true part = rw (uncons text at (l .inside), l .percent) in
+      let cut : commentBytes true part ≡ length (take n part) + commentBytes true (drop n part) =
+      ap (commentBytes true) (sym (take-append-drop n part)) ∙ within-line (take n part) (drop n part) (leading-every isLineByte part)
+      in
+      let size : length (take n part) ≡ n = length-take-le n part (leading-le isLineByte part) in
+      omega (arith, l .goes-to, same, cut, size, ap (commentBytes true) rest-of-line)
 
-      -- it ends with LF
-      pub comment-more : (end ≡ length text → ⊥) → at + commentBytes false (drop at text) ≡ end + 1 + commentBytes false (drop (end + 1) text)
-      comment-more q =
-          let inside : end < length text = omega (arith, end-inside, q) in
-          let n = leading isLineByte (drop at text) in
-          let next = drop-drop n at text ∙ ap (λ (k : ℕ). drop k text) (sym is) ∙ uncons text end inside in
-          let feed = leading-stop isLineByte (drop at text) (getD text end 0) (drop (end + 1) text) next in
-          let step : commentBytes true (drop end text) ≡ suc (commentBytes false (drop (end + 1) text)) = rw (uncons text end inside, feed) in
-          omega (arith, within, step)
+  pub line-ahead : at ≤ end
+  line-ahead = omega (arith, l .goes-to)
+
+  pub line-inside : end ≤ length text
+  line-inside = omega (arith, l .inside, l .goes-to, leading-le isLineByte (drop at text), length-drop at text)
+
+  -- the text ends with it
+  pub comment-last : end ≡ length text → at + commentBytes false (drop at text) ≡ end
+  comment-last e =
+      let past : length text ≤ end = omega arith in
+      let none : commentBytes true (drop end text) ≡ 0 = rw (drop-of-length-le text past) in
+      omega (arith, whole-line, none)
+
+  -- or LF ends it, and the next line begins
+  pub comment-more : (end ≡ length text → ⊥) → at + commentBytes false (drop at text) ≡ end + 1 + commentBytes false (drop (end + 1) text)
+  comment-more e =
+      let h : end < length text = omega (arith, line-inside, e) in
+      let feed = leading-stop isLineByte (drop at text) (getD text end 0) (drop (end + 1) text) (rest-of-line ∙ uncons text end h) in
+      let step : commentBytes true (drop end text) ≡ suc (commentBytes false (drop (end + 1) text)) = rw (uncons text end h, feed) in
+      omega (arith, whole-line, step)

@@ -1,6 +1,5 @@
 -- Bytes and strings of bytes, as document 01 speaks of them ("Spelling"). A text, a token and a word are lists of bytes.
 -- Assumes nothing.
-use mathlib.Core.Path.{_≡_}
 use mathlib.Core.Bool.{Bool, true, false, cond, _&&_, _||_}
 use mathlib.Core.List.{List, [], _∷_}
 use Prim.Native.Nat.{ℕ, suc, _+_, _-_, _*_}

@@ -1,6 +1,6 @@
 -- Laws of byte strings: `same` decides equality; `every` and `leading` along a string.
 -- Assumes nothing.
-use mathlib.Core.Path.{_≡_, refl, sym, ap, _∙_, subst}
+use mathlib.Core.Path.{_≡_, refl, sym, ap, subst}
 use mathlib.Core.Bool.{Bool, true, false, cond, _&&_}
 use mathlib.Core.List.{List, [], _∷_, _++_}
 use Prim.Native.Nat.{ℕ, zero, suc, _+_, _≤_, _<_}
@@ -8,7 +8,7 @@ use native.Mathlib.Nat.{zero-add, suc-add, le-of-suc-le-suc, not-suc-le-zero}
 use native.Mathlib.Numerals.{add-one}
 use native.Mathlib.Omega.{arith}
 use lib.Dec.{eqb}
-use lib.ListN.{length, take, drop, getD, length-append}
+use lib.ListN.{length, take, drop, getD}
 use lib.Seq.{slice, take-nil, drop-cons}
 use borrow.Author.Tests.{eq-eqb, eqb-true}
 use Rattle.text.specs.Bytes.{Bytes, every, leading, same}
@@ -97,8 +97,8 @@ module _ (test : ℕ → Bool) where
 pub uncons : (w : Bytes) (i : ℕ) → i < length w → drop i w ≡ getD w i 0 ∷ drop (i + 1) w
 uncons w i h = rw (add-one, drop-cons w i 0)
 
--- the bytes from `from` on, so many of them
-pub slice-take : (from n : ℕ) (w : Bytes) → slice from (from + n) w ≡ take n (drop from w)
-slice-take zero n w = rw zero-add
+-- the elements from `from` on, so many of them
+pub slice-take : {A : Type 0} (from n : ℕ) (l : List A) → slice from (from + n) l ≡ take n (drop from l)
+slice-take zero n l = rw zero-add
 slice-take (suc from) n [] = rw suc-add (sym (take-nil n))
-slice-take (suc from) n (b ∷ w) = rw suc-add (slice-take from n w)
+slice-take (suc from) n (x ∷ l) = rw suc-add (slice-take from n l)

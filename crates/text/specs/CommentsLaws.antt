@@ -2,13 +2,12 @@
 -- end at one place, and `commentsEnd` is that place.
 -- Assumes nothing.
 use mathlib.Core.Path.{_≡_, refl, sym, ap, _∙_, subst}
-use mathlib.Core.Bool.{Bool, true, false, cond, not, _&&_}
-use mathlib.Core.List.{List, [], _∷_, _++_, append-nil}
-use mathlib.Core.Logic.{_⊎_, inl, inr, ⊎-elim}
+use mathlib.Core.Bool.{Bool, true, false, cond, not}
+use mathlib.Core.List.{[], _∷_, _++_, append-nil}
+use mathlib.Core.Logic.{_↔_}
 use Prim.Native.Nat.{ℕ, suc, _+_, _≤_}
 use native.Mathlib.Nat.{zero-add, add-zero, suc-add}
 use native.Mathlib.Omega.{arith}
-use lib.Dec.{eqb}
 use lib.ListN.{length}
 use borrow.Author.Tests.{eqb-true}
 use Rattle.text.specs.Bytes.{Bytes, every}
@@ -39,37 +38,40 @@ comments-only (line {text} {place} inside after is e k) =
     rw is (omega (arith, h, m))
 comments-only (last {text} inside is e) = rw is (ap suc (sym (within-last inside e)))
 
--- a part that begins within a comment: the comment ends with an LF, or with the text
-abbrev Within : Bytes → ℕ → Type 0
-Within part n =
-    ((inside : Bytes) × (after : Bytes) × (place : ℕ) × (part ≡ inside ++ (10 ∷ after)) × (every isLineByte inside ≡ true) × CommentsEndAt after place × (n ≡ length inside + 1 + place))
-    ⊎ ((every isLineByte part ≡ true) × (n ≡ length part))
+-- a part that begins within a comment: LF ends the comment, or the text does
+data Within : Bytes → ℕ → Type 0 where
+  by-feed : {part : Bytes} {place : ℕ} (inside after : Bytes) → part ≡ inside ++ (10 ∷ after) → every isLineByte inside ≡ true
+      → CommentsEndAt after place → Within part (length inside + 1 + place)
+  by-end : {part : Bytes} → every isLineByte part ≡ true → Within part (length part)
 
 opened : {part : Bytes} {b n : ℕ} → b ≡ 37 → Within part n → CommentsEndAt (b ∷ part) (suc n)
-opened {part} {b} {n} p =
-    ⊎-elim
-    (λ w.
-    let e : b ∷ part ≡ 37 ∷ (w .0 ++ (10 ∷ w .1)) = λ i. p i ∷ w .3 i in
-    let m : length (w .0) + 2 + w .2 ≡ suc n = omega (arith, w .6) in
-    subst (CommentsEndAt (b ∷ part)) m (line (w .0) (w .1) e (w .4) (w .5)))
-    (λ w. subst (CommentsEndAt (b ∷ part)) (ap suc (sym (w .1))) (last part (λ i. p i ∷ part) (w .0)))
+opened {part} {b} p (by-feed {place = place} inside after e l k) =
+    let n : length inside + 2 + place ≡ suc (length inside + 1 + place) = omega arith in
+    subst (CommentsEndAt (b ∷ part)) n (line inside after (λ i. p i ∷ e i) l k)
+opened {part} p (by-end l) = last part (λ i. p i ∷ part) l
 
 further : {part : Bytes} {b n : ℕ} → isLineByte b ≡ true → Within part n → Within (b ∷ part) (suc n)
-further {part} {b} {n} p =
-    ⊎-elim
-    (λ w. inl (b ∷ w .0, w .1, w .2, ap (λ (u : Bytes). b ∷ u) (w .3), rw p (w .4), w .5, omega (arith, w .6)))
-    (λ w. inr (rw p (w .0), ap suc (w .1)))
+further {part} {b} p (by-feed {place = place} inside after e l k) =
+    let n : length (b ∷ inside) + 1 + place ≡ suc (length inside + 1 + place) = omega arith in
+    subst (Within (b ∷ part)) n (by-feed (b ∷ inside) after (λ i. b ∷ e i) (rw p l) k)
+further {b = b} p (by-end {part} l) = by-end {part = b ∷ part} (rw p l)
+
+fed : {part : Bytes} {b n : ℕ} → b ≡ 10 → CommentsEndAt part n → Within (b ∷ part) (suc n)
+fed {part} {b} {n} p k =
+    let m : length {A = ℕ} [] + 1 + n ≡ suc n = omega arith in
+    subst (Within (b ∷ part)) m (by-feed [] part (λ i. p i ∷ part) refl k)
 
 both-ways : (part : Bytes) → CommentsEndAt part (commentBytes false part) × Within part (commentBytes true part)
-both-ways [] = (none refl, inr (refl, refl))
+both-ways [] = (none refl, by-end refl)
 both-ways (b ∷ part) = (outside (isPercent b) refl (both-ways part .1), inside (isLineFeed b) refl (both-ways part))
   where
     outside : (x : Bool) → isPercent b ≡ x → Within part (commentBytes true part) → CommentsEndAt (b ∷ part) (cond x (suc (commentBytes true part)) 0)
     outside true e w = opened (eqb-true b 37 e) w
     outside false e w = none e
 
-    inside : (x : Bool) → isLineFeed b ≡ x → CommentsEndAt part (commentBytes false part) × Within part (commentBytes true part) → Within (b ∷ part) (suc (commentBytes (not x) part))
-    inside true e h = inl ([], part, commentBytes false part, ap (λ (d : ℕ). d ∷ part) (eqb-true b 10 e), refl, h .0, omega arith)
+    inside : (x : Bool) → isLineFeed b ≡ x → CommentsEndAt part (commentBytes false part) × Within part (commentBytes true part)
+        → Within (b ∷ part) (suc (commentBytes (not x) part))
+    inside true e h = fed (eqb-true b 10 e) (h .0)
     inside false e h = further (rw e) (h .1)
 
 -- and holds of the place worked out
@@ -77,11 +79,15 @@ pub comments-end : (text : Bytes) → CommentsEndAt text (commentsEnd text)
 unfolding commentsEnd
 comments-end text = both-ways text .0
 
--- the comments of a text end at one place
+-- the comments of a text end at a place exactly if that is `commentsEnd`
+pub comments-end-at : (text : Bytes) (place : ℕ) → CommentsEndAt text place ↔ (place ≡ commentsEnd text)
+comments-end-at text place = (comments-only, λ e. subst (CommentsEndAt text) (sym e) (comments-end text))
+
+-- so they end at one place
 pub comments-once : {text : Bytes} {m n : ℕ} → CommentsEndAt text m → CommentsEndAt text n → m ≡ n
 comments-once p q = comments-only p ∙ sym (comments-only q)
 
--- and within it
+-- which is within it or its end
 pub comments-inside : (text : Bytes) → commentsEnd text ≤ length text
 unfolding commentsEnd
 comments-inside text = go false text

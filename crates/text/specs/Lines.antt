@@ -11,7 +11,7 @@ use Rattle.text.specs.Comments.{isLineFeed}
 -- how many LF bytes
 abbrev pub lineFeeds : Bytes → ℕ
 lineFeeds [] = 0
-lineFeeds (b ∷ part) = cond (isLineFeed b) (suc (lineFeeds part)) (lineFeeds part)
+lineFeeds (b ∷ part) = let after = lineFeeds part in cond (isLineFeed b) (suc after) after
 
 -- the line of a place
 unfoldable pub lineOf : Bytes → ℕ → ℕ

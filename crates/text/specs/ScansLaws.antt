@@ -3,19 +3,18 @@
 use mathlib.Core.Path.{_≡_, refl, sym, ap, _∙_, subst}
 use mathlib.Core.Bool.{Bool, true, false, not}
 use mathlib.Core.List.{List, [], _∷_, _++_}
-use Prim.Native.Nat.{ℕ, suc, _+_, _-_, _≤_, _<_}
+use Prim.Native.Nat.{ℕ, _+_, _≤_, _<_}
 use native.Mathlib.Nat.{zero-lt-suc}
 use native.Mathlib.Omega.{arith}
 use lib.Dec.{ltb}
 use lib.ListN.{length, take, drop, getD, length-drop, take-append-drop, drop-of-length-le}
-use lib.Seq.{slice, length-slice, length-take-le, drop-cons, drop-drop}
+use lib.Seq.{slice, length-slice, length-take-le, drop-drop}
 use borrow.Author.Tests.{ltb-true, ltb-false, not-false}
-use Rattle.text.specs.Bytes.{Bytes, isSeparator, every, leading}
-use Rattle.text.specs.BytesLaws.{clash, leading-le, leading-every, leading-stop, uncons, slice-take}
-use Rattle.text.specs.Tokens.{Token, isTokenByte, isEnded, Stream, end, token, join, listed, streamAt, rest, tokenEnd}
+use Rattle.text.specs.Bytes.{Bytes, isSeparator, leading}
+use Rattle.text.specs.BytesLaws.{leading-le, leading-every, leading-stop, uncons, slice-take}
+use Rattle.text.specs.Tokens.{Token, isTokenByte, isEnded, end, token, join, listed, streamAt, rest, tokenEnd}
 use Rattle.text.specs.TokensLaws.{stream-gap, stream-token, rest-is}
 use Rattle.text.specs.Scans.{scanOf, Found}
-use Rattle.text.specs.declared.Scan.{Scan}
 use Rattle.text.specs.declared.Scan.the-variants as scan
 
 -- the bytes that lead a part, and what is left of it
@@ -71,7 +70,8 @@ module _ (text : Bytes) where
         let w : take n (drop at text) ≡ slice at (at + n) text = sym (slice-take at n text) in
         let l : length (take n (drop at text)) ≡ n = length-leading isTokenByte (drop at text) in
         ap (streamAt (length text) at) (sym (cut-leading isTokenByte (drop at text)))
-        ∙ stream-token (length text) at (take n (drop at text)) (drop n (drop at text)) (omega (arith, l, token-some)) (leading-every isTokenByte (drop at text)) (token-ended (drop at text))
+        ∙ stream-token (length text) at (take n (drop at text)) (drop n (drop at text))
+        (omega (arith, l, token-some)) (leading-every isTokenByte (drop at text)) (token-ended (drop at text))
         ∙ (λ i. token at (w i) (streamAt (length text) (at + l i) (drop-drop n at text i)))
 
   -- the first token from a place on: it begins after the separators there

@@ -30,7 +30,8 @@ shownTo text place = cond (beginsToken text place) (tokenEnd text place) (length
 abbrev pub shownAt : Bytes → ℕ → Bytes
 shownAt text place = slice (shownFrom text place) (shownTo text place) text
 
--- "that part of the lent text itself": a reference to the text's own bytes `from` up to `to`, in the same block of memory
+-- "that part of the lent text itself": a reference to the text's own bytes from `from` up to `to`. Where a reference points is
+-- a block of memory and an offset in it: the block is the text's, and the offset is `from` bytes after the text's.
 pub record IsPart (text : RefT Bytes) (from to : ℕ) (part : RefT Bytes) : Type 0 where
   pub ordered : from ≤ to
   pub inside : to ≤ length (text .now)

@@ -77,7 +77,8 @@ withByte place b false (token next bytes s) = token place (b ∷ bytes) s
 unfoldable pub streamAt : ℕ → ℕ → Bytes → Stream
 streamAt size place [] = end size
 streamAt size place (b ∷ part) =
-    cond (isSeparator b) (streamAt size (place + 1) part) (withByte place b (isEnded part) (streamAt size (place + 1) part))
+    let after = streamAt size (place + 1) part in
+    cond (isSeparator b) after (withByte place b (isEnded part) after)
 
 -- the tokens from the byte place `at` of a text on; none from a place past its end
 unfoldable pub rest : Bytes → ℕ → Stream

@@ -2,17 +2,17 @@
 -- tokens, and `rest` is that list with the end after it; and so for the whole text and `tokensOf`.
 -- Assumes nothing.
 use mathlib.Core.Path.{_≡_, refl, sym, ap, _∙_, subst}
-use mathlib.Core.Bool.{Bool, true, false, cond, not, _&&_}
-use mathlib.Core.List.{List, [], _∷_, _++_}
+use mathlib.Core.Bool.{Bool, true, false, cond}
+use mathlib.Core.List.{List, [], _∷_, _++_, append-nil}
 use mathlib.Core.Logic.{_↔_}
-use Prim.Native.Nat.{ℕ, suc, _+_, _≤_, _<_}
+use Prim.Native.Nat.{ℕ, suc, _+_, _<_}
 use native.Mathlib.Nat.{add-zero, not-suc-le-zero, zero-lt-suc}
 use native.Mathlib.Omega.{arith}
 use lib.ListN.{length, drop}
 use borrow.Author.Tests.{not-true}
 use Rattle.text.specs.Bytes.{Bytes, isSeparator, every}
 use Rattle.text.specs.BytesLaws.{clash, both}
-use Rattle.text.specs.Comments.{CommentsEndAt, commentsEnd}
+use Rattle.text.specs.Comments.{commentsEnd}
 use Rattle.text.specs.CommentsLaws.{comments-only, comments-end}
 use Rattle.text.specs.Tokens.{Token, isTokenByte, isEnded, FirstToken, HasTokens, TextHasTokens, Stream, end, token, join, listed, withByte, streamAt, rest, tokensOf}
 
@@ -52,10 +52,7 @@ stream-token size at (b ∷ c ∷ w) after p e d =
 -- separators alone have no token
 stream-end : (size at : ℕ) (gap : Bytes) → every isSeparator gap ≡ true → streamAt size at gap ≡ end size
 unfolding streamAt
-stream-end size at [] e = refl
-stream-end size at (b ∷ gap) e =
-    let h = both (isSeparator b) (every isSeparator gap) e in
-    rw (h .0) (stream-end size (at + 1) gap (h .1))
+stream-end size at gap e = ap (streamAt size at) (sym (append-nil gap)) ∙ stream-gap size at gap [] e
 
 -- ---- from the words to the stream
 
@@ -184,3 +181,68 @@ text-tokens-only {text} {ts} h =
     tokens-once (commentsEnd text) (drop (commentsEnd text) text) ts (tokensOf text)
     (subst (λ (n : ℕ). HasTokens n (drop n text) ts) (comments-only (h .comments)) (h .tokens))
     (subst (λ (n : ℕ). HasTokens n (drop n text) (tokensOf text)) (comments-only (text-tokens text .comments)) (text-tokens text .tokens))
+
+-- a text has these tokens exactly if they are `tokensOf`
+pub text-has-tokens : (text : Bytes) (ts : List Token) → TextHasTokens text ts ↔ (ts ≡ tokensOf text)
+text-has-tokens text ts = (text-tokens-only, λ e. subst (TextHasTokens text) (sym e) (text-tokens text))
+
+-- they are what is left after the comments
+pub rest-tokens : (text : Bytes) → rest text (commentsEnd text) ≡ join (tokensOf text) (end (length text))
+unfolding tokensOf
+rest-tokens text = rest-is text (commentsEnd text)
+
+-- ---- a text cut in two between its tokens
+
+-- a part after which a token may begin: it is empty, or its last byte is a separator
+abbrev pub isSeparated : Bytes → Bool
+isSeparated [] = true
+isSeparated (b ∷ []) = isSeparator b
+isSeparated (b ∷ c ∷ part) = isSeparated (c ∷ part)
+
+pub separated-last : (part : Bytes) (b : ℕ) → isSeparator b ≡ true → isSeparated (part ++ (b ∷ [])) ≡ true
+separated-last [] b e = e
+separated-last (a ∷ []) b e = e
+separated-last (a ∷ c ∷ part) b e = separated-last (c ∷ part) b e
+
+stream-none : (size at : ℕ) → streamAt size at [] ≡ end size
+unfolding streamAt
+stream-none size at = refl
+
+stream-byte : (size at b : ℕ) (part : Bytes)
+    → streamAt size at (b ∷ part) ≡ cond (isSeparator b) (streamAt size (at + 1) part) (withByte at b (isEnded part) (streamAt size (at + 1) part))
+unfolding streamAt
+stream-byte size at b part = refl
+
+-- a stream that begins with a token
+abbrev isToken : Stream → Bool
+isToken (end size) = false
+isToken (token place bytes s) = true
+
+byte-token : (at b : ℕ) (x : Bool) (s : Stream) → isToken (withByte at b x s) ≡ true
+byte-token at b true s = refl
+byte-token at b false (end size) = refl
+byte-token at b false (token place bytes s) = refl
+
+stream-starts : (size at b : ℕ) (part : Bytes) → isSeparator b ≡ false → isToken (streamAt size at (b ∷ part)) ≡ true
+stream-starts size at b part e = rw (stream-byte size at b part, e) (byte-token at b (isEnded part) (streamAt size (at + 1) part))
+
+byte-join : (at b : ℕ) (x y : Bool) (s t : Stream) → (y ≡ false → isToken s ≡ true)
+    → cond x (join (listed s) t) (withByte at b y (join (listed s) t)) ≡ join (listed (cond x s (withByte at b y s))) t
+byte-join at b true y s t h = refl
+byte-join at b false true s t h = refl
+byte-join at b false false (end size) t h = clash refl (h refl)
+byte-join at b false false (token place bytes s) t h = refl
+
+-- the tokens of such a part, and then those of what follows it
+pub stream-cut : (size at : ℕ) (part after : Bytes) → isSeparated part ≡ true
+    → streamAt size at (part ++ after) ≡ join (listed (streamAt size at part)) (streamAt size (at + length part) after)
+stream-cut size at [] after e = rw (add-zero, stream-none size at)
+stream-cut size at (b ∷ []) after e = rw (stream-byte size at b after, stream-byte size at b [], e, stream-none size (at + 1))
+stream-cut size at (b ∷ c ∷ part) after e =
+    let s = streamAt size (at + 1) (c ∷ part) in
+    let t = streamAt size (at + 1 + length (c ∷ part)) after in
+    let n : at + 1 + length (c ∷ part) ≡ at + length (b ∷ c ∷ part) = omega arith in
+    stream-byte size at b (c ∷ (part ++ after))
+    ∙ ap (λ (u : Stream). cond (isSeparator b) u (withByte at b (isSeparator c) u)) (stream-cut size (at + 1) (c ∷ part) after e)
+    ∙ byte-join at b (isSeparator b) (isSeparator c) s t (stream-starts size (at + 1) c part)
+    ∙ (λ i. join (listed (sym (stream-byte size at b (c ∷ part)) i)) (streamAt size (n i) after))

@@ -1,108 +1,82 @@
 -- The words of the format, byte for byte (document 01, "Spelling"): "Keywords are compared byte for byte, case included."
 -- Assumes nothing.
-use mathlib.Core.List.{[], _∷_}
 use Rattle.text.specs.Bytes.{Bytes}
+use Rattle.text.specs.Ascii.{ascii}
 
--- `VER`
 abbrev pub VER : Bytes
-VER = 86 ∷ 69 ∷ 82 ∷ []
+VER = ascii "VER"
 
--- `1.0`
 abbrev pub version : Bytes
-version = 49 ∷ 46 ∷ 48 ∷ []
+version = ascii "1.0"
 
--- `VAR`
 abbrev pub VAR : Bytes
-VAR = 86 ∷ 65 ∷ 82 ∷ []
+VAR = ascii "VAR"
 
--- `INT`
 abbrev pub INT : Bytes
-INT = 73 ∷ 78 ∷ 84 ∷ []
+INT = ascii "INT"
 
--- `OBJ`
 abbrev pub OBJ : Bytes
-OBJ = 79 ∷ 66 ∷ 74 ∷ []
+OBJ = ascii "OBJ"
 
--- `CON`
 abbrev pub CON : Bytes
-CON = 67 ∷ 79 ∷ 78 ∷ []
+CON = ascii "CON"
 
--- `RTP`
 abbrev pub RTP : Bytes
-RTP = 82 ∷ 84 ∷ 80 ∷ []
+RTP = ascii "RTP"
 
--- `SOL`
 abbrev pub SOL : Bytes
-SOL = 83 ∷ 79 ∷ 76 ∷ []
+SOL = ascii "SOL"
 
--- `DER`
 abbrev pub DER : Bytes
-DER = 68 ∷ 69 ∷ 82 ∷ []
+DER = ascii "DER"
 
--- `{`
 abbrev pub open-brace : Bytes
-open-brace = 123 ∷ []
+open-brace = ascii "{"
 
--- `}`
 abbrev pub close-brace : Bytes
-close-brace = 125 ∷ []
+close-brace = ascii "}"
 
--- `min`
 abbrev pub min : Bytes
-min = 109 ∷ 105 ∷ 110 ∷ []
+min = ascii "min"
 
--- `max`
 abbrev pub max : Bytes
-max = 109 ∷ 97 ∷ 120 ∷ []
+max = ascii "max"
 
--- `E`
 abbrev pub E : Bytes
-E = 69 ∷ []
+E = ascii "E"
 
--- `L`
 abbrev pub L : Bytes
-L = 76 ∷ []
+L = ascii "L"
 
--- `G`
 abbrev pub G : Bytes
-G = 71 ∷ []
+G = ascii "G"
 
--- `infeas`
 abbrev pub infeas : Bytes
-infeas = 105 ∷ 110 ∷ 102 ∷ 101 ∷ 97 ∷ 115 ∷ []
+infeas = ascii "infeas"
 
--- `range`
 abbrev pub range : Bytes
-range = 114 ∷ 97 ∷ 110 ∷ 103 ∷ 101 ∷ []
+range = ascii "range"
 
--- `-inf`
 abbrev pub minus-inf : Bytes
-minus-inf = 45 ∷ 105 ∷ 110 ∷ 102 ∷ []
+minus-inf = ascii "-inf"
 
--- `inf`
 abbrev pub inf : Bytes
-inf = 105 ∷ 110 ∷ 102 ∷ []
+inf = ascii "inf"
 
--- `-1`
 abbrev pub minus-one : Bytes
-minus-one = 45 ∷ 49 ∷ []
+minus-one = ascii "-1"
 
--- `asm`
 abbrev pub asm : Bytes
-asm = 97 ∷ 115 ∷ 109 ∷ []
+asm = ascii "asm"
 
--- `lin`
 abbrev pub lin : Bytes
-lin = 108 ∷ 105 ∷ 110 ∷ []
+lin = ascii "lin"
 
--- `rnd`
 abbrev pub rnd : Bytes
-rnd = 114 ∷ 110 ∷ 100 ∷ []
+rnd = ascii "rnd"
 
--- `uns`
 abbrev pub uns : Bytes
-uns = 117 ∷ 110 ∷ 115 ∷ []
+uns = ascii "uns"
 
--- `sol`
 abbrev pub sol : Bytes
-sol = 115 ∷ 111 ∷ 108 ∷ []
+sol = ascii "sol"

@@ -2,7 +2,7 @@
 // number past its end.
 ghost use mathlib.Core.Path.{_≡_};
 ghost use Prim.Native.Nat.{_+_, min};
-ghost use lib.ListN.{length, drop};
+ghost use lib.ListN.{drop};
 ghost use lib.Seq.{slice};
 ghost use Rattle.text.specs.Bytes.{isSeparator, leading, same};
 ghost use Rattle.text.specs.Comments.{commentsEnd};
@@ -120,7 +120,7 @@ pub fn line_of(text: &[u8], place: usize) -> usize
 }
 
 // The part from .. to of the text, as far as the text goes.
-fn part(text: &[u8], from: usize, to: usize) -> &[u8]
+pub fn part(text: &[u8], from: usize, to: usize) -> &[u8]
     ensures { λ r. ⌜ now r ≡ slice from to (now (text .entry)) ⌝ }
 {
     let end = least(to, text.len());
@@ -180,6 +180,6 @@ pub fn show_token(text: &[u8], place: usize) -> &[u8]
         let to = run_end(text, place, Kind::Token);
         &text[place..to]
     } else {
-        &text[end..]
+        &text[end..end]
     }
 }

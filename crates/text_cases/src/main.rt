@@ -103,6 +103,7 @@ fn comments() {
     tokens(b"a comment without LF", b"% VER 1.0");
     tokens(b"a second comment without LF", b"% VER\n%1.0");
     tokens(b"CR ends no comment", b"% a\rVER\n1.0");
+    tokens(b"lines that end in CR LF", b"% a\r\nVER\r\n1.0\r\n");
     tokens(b"any bytes in a comment", b"%\x00\xff%\t\nVER");
     tokens(b"an empty comment, a blank line", b"%\n\nVER");
     tokens(b"a blank line before %", b"\n% VER");

@@ -26,7 +26,7 @@ g-positive : (k : tie.After-gcd) → 0 < k .gcd .result
 g-positive k = divisor-positive _ _ (k .gcd .result) (k .before .before .pre .1 .positive) (k .gcd .ensures)
 
 h-positive : (k : tie.After-gcd2) → 0 < k .gcd2 .result
-h-positive k = divisor-positive-left _ _ (k .gcd2 .result) (g-positive (k .before .before .before)) (k .gcd2 .ensures)
+h-positive k = divisor-positive-left _ _ (k .gcd2 .result) (omega (arith, g-positive (k .before .before .before))) (k .gcd2 .ensures)
 
 -- t, as it is read, is n·(e / g) + m·(d / g)
 total-is : (k : tie.After-cross-sum) → read-wide (k .cross-sum .result) ≡ k .before .before .before .args .n *ℤ pos (k .before .before .before .args .e / k .before .gcd .result) +ℤ k .before .before .before .args .m *ℤ pos (k .before .before .before .args .d / k .before .gcd .result)

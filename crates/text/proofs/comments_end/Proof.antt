@@ -1,4 +1,4 @@
--- `text::comments_end` meets its contract. The invariant: the comments end where those from `at` on end, as a line begins at `at`.
+-- `text::comments_end` meets its contract. The invariant: a line begins at `at`, and the comments from there on end where all of them end.
 -- The measure is what is left of the text.
 -- Assumes nothing.
 use Prim.Native.Nat.{_+_, _-_}
@@ -8,7 +8,7 @@ use borrow.Author.Needs.{needs}
 use native.Mathlib.Omega.{arith}
 use lib.ListN.{length, drop}
 use Rattle.text.specs.Comments.{commentBytes, commentsEnd}
-use Rattle.text.proofs.Turns.{comment-first, comment-past, comment-none, comment-last, comment-more, end-inside}
+use Rattle.text.proofs.Turns.{comment-first, comment-past, comment-none, CommentLine, line-ahead, line-inside, comment-last, comment-more}
 use Rattle.text.proofs.comments_end.Statement.{statement}
 use Rattle.text.proofs.comments_end.Tie as tie
 
@@ -17,6 +17,13 @@ Inv-loop text at₀ at = at + commentBytes false (drop at text) ≡ commentsEnd 
 
 abbrev μ-loop : tie.MeasureT-loop
 μ-loop text at₀ at = length text - at
+
+abbrev at-loop : tie.After-run-end Inv-loop μ-loop → tie.At-loop Inv-loop μ-loop
+at-loop c = c .before .before .before .before
+
+-- the line at the place, up to what `run_end` found
+this-line : (c : tie.After-run-end Inv-loop μ-loop) → CommentLine (at-loop c .before .before .args .text .now) (at-loop c .loop .at) (c .run-end .result)
+this-line c = record { inside = c .before .before .before .loop-test .taken; percent = c .before .if1 .left; goes-to = c .run-end .ensures }
 
 loop-holds : tie.Need-loop-holds Inv-loop μ-loop
 loop-holds c = comment-first (c .before .args .text .now)
@@ -27,39 +34,22 @@ shared-slice-read-if1 c = search needs
 returns : tie.Need-returns Inv-loop μ-loop
 returns c =
     let l = c .before .before .before in
-    let t = l .before .before .args .text .now in
-    omega (arith, l .loop .inv, comment-none t (l .loop .at) (c .before .before .loop-test .taken) (c .if1 .taken))
+    omega (arith, l .loop .inv, comment-none (l .before .before .args .text .now) (l .loop .at) (c .before .before .loop-test .taken) (c .if1 .taken))
 
 run-end-requires : tie.Need-run-end-requires Inv-loop μ-loop
 run-end-requires c κs = search needs
 
 returns-2 : tie.Need-returns-2 Inv-loop μ-loop
-returns-2 c =
-    let i = c .before .before in
-    let l = i .before .before .before in
-    let t = l .before .before .args .text .now in
-    sym (comment-last t (l .loop .at) (i .before .before .loop-test .taken) (i .if1 .left) _ (c .before .run-end .ensures) (c .if2 .taken)) ∙ l .loop .inv
+returns-2 c = sym (comment-last (this-line (c .before)) (c .if2 .taken)) ∙ at-loop (c .before) .loop .inv
 
 add-at : tie.Need-add-at Inv-loop μ-loop
-add-at c =
-    let i = c .before .before in
-    let l = i .before .before .before in
-    let t = l .before .before .args .text .now in
-    omega (arith, end-inside t (l .loop .at) (i .before .before .loop-test .taken) (i .if1 .left) _ (c .before .run-end .ensures))
+add-at c = omega (arith, line-inside (this-line (c .before)))
 
 loop-less : tie.Need-loop-less Inv-loop μ-loop
-loop-less c =
-    let i = c .before .before in
-    let l = i .before .before .before in
-    let t = l .before .before .args .text .now in
-    omega (arith, end-inside t (l .loop .at) (i .before .before .loop-test .taken) (i .if1 .left) _ (c .before .run-end .ensures))
+loop-less c = omega (arith, line-ahead (this-line (c .before)), line-inside (this-line (c .before)))
 
 loop-again : tie.Need-loop-again Inv-loop μ-loop
-loop-again c =
-    let i = c .before .before in
-    let l = i .before .before .before in
-    let t = l .before .before .args .text .now in
-    sym (comment-more t (l .loop .at) (i .before .before .loop-test .taken) (i .if1 .left) _ (c .before .run-end .ensures) (c .if2 .left)) ∙ l .loop .inv
+loop-again c = sym (comment-more (this-line (c .before)) (c .if2 .left)) ∙ at-loop (c .before) .loop .inv
 
 returns-3 : tie.Need-returns-3 Inv-loop μ-loop
 returns-3 c =

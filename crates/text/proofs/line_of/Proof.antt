@@ -40,7 +40,6 @@ loop-again : tie.Need-loop-again Inv-loop μ-loop
 loop-again c =
     let l = c .before .before .before in
     let s = l .before .before .before in
-    let h = c .before .before .loop-test .taken in
     ⊎-elim
     (λ w. (omega (arith, w .1, l .loop .inv .0, line-more (s .args .text .now) (l .loop .i) (omega arith) (w .0 .taken)), omega (arith, w .1), omega arith))
     (λ w. (omega (arith, w .1, l .loop .inv .0, line-same (s .args .text .now) (l .loop .i) (omega arith) (w .0 .left)), omega (arith, w .1), omega arith))

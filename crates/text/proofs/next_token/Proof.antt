@@ -1,8 +1,6 @@
 -- `text::next_token` meets its contract: past the separators a token begins, or the text ends.
 -- Assumes nothing.
-use mathlib.Core.Path.{sym, ap, subst}
 use borrow.Author.Needs.{needs}
-use Rattle.text.specs.Scans.{scanOf}
 use Rattle.text.proofs.Scanning.{scans-token, scans-end}
 use Rattle.text.proofs.next_token.Statement.{statement}
 use Rattle.text.proofs.next_token.Tie as tie

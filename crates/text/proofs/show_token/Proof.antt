@@ -17,7 +17,8 @@ token-inside : (c : tie.After-run-end) → c .run-end .result ≤ length (c .bef
 token-inside c =
     let a = c .before .before .before .before .args in
     let b = sym (c .before .before .begins-token .ensures) ∙ c .before .if1 .taken in
-    omega (arith, c .run-end .ensures, begun-inside (a .text .now) (a .place) b, leading-le isTokenByte (drop (a .place) (a .text .now)), length-drop (a .place) (a .text .now))
+    let part = drop (a .place) (a .text .now) in
+    omega (arith, c .run-end .ensures, begun-inside (a .text .now) (a .place) b, leading-le isTokenByte part, length-drop (a .place) (a .text .now))
 
 begins-token-requires : tie.Need-begins-token-requires
 begins-token-requires c κs = search needs
@@ -48,14 +49,18 @@ returns c =
     let r = c .before in
     let a = r .before .before .before .before .args in
     let b = sym (r .before .before .begins-token .ensures) ∙ r .before .if1 .taken in
-    part-at (a .place) (r .run-end .result) (from-begun (a .text .now) (a .place) b) (to-begun (a .text .now) (a .place) b ∙ sym (r .run-end .ensures)) (search needs) (token-inside r) refl (omega arith) refl
+    let from = from-begun (a .text .now) (a .place) b in
+    let to = to-begun (a .text .now) (a .place) b ∙ sym (r .run-end .ensures) in
+    part-at (a .place) (r .run-end .result) from to (search needs) (token-inside r) refl (omega arith) refl
 
 returns-2 : tie.Need-returns-2
 returns-2 c =
     let a = c .before .before .before .before .args in
     let n = length (a .text .now) in
     let b = sym (c .before .before .begins-token .ensures) ∙ c .before .if1 .left in
-    part-at n n (from-none (a .text .now) (a .place) b) (to-none (a .text .now) (a .place) b) (omega arith) (omega arith) refl (omega arith) refl
+    let from = from-none (a .text .now) (a .place) b in
+    let to = to-none (a .text .now) (a .place) b in
+    part-at n n from to (omega arith) (omega arith) refl (omega arith) refl
 
 pub show-token-spec : {M : Type 1} → statement M
 show-token-spec =

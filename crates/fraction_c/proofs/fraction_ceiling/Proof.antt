@@ -1,0 +1,21 @@
+-- `fraction_c::fraction_ceiling` meets its contract: what `store_whole` stores is the answer of `ceiling` for the operands.
+use borrow.Author.Needs.{needs}
+use Rattle.fraction.specs.Fraction.{ceilingOf}
+use Rattle.fraction_c.proofs.fraction_ceiling.Statement.{statement}
+use Rattle.fraction_c.proofs.fraction_ceiling.Tie as tie
+use Rattle.fraction_c.proofs.Stores.{of-one}
+
+ceiling-requires : tie.Need-ceiling-requires
+ceiling-requires c κs = search needs
+
+store-whole-requires : tie.Need-store-whole-requires
+store-whole-requires c κs = search needs
+
+returns : tie.Need-returns
+returns c =
+    let p = c .before .before in
+    let f = p .before .fits in
+    of-one (c .store-whole .ensures) ceilingOf (f .num) (f .den) (p .ceiling .ensures)
+
+pub fraction-ceiling-spec : {M : Type 1} → statement M
+fraction-ceiling-spec = tie.close (tie.spec ceiling-requires store-whole-requires returns)

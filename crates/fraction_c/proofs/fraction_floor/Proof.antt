@@ -1,0 +1,21 @@
+-- `fraction_c::fraction_floor` meets its contract: what `store_whole` stores is the answer of `floor` for the operands.
+use borrow.Author.Needs.{needs}
+use Rattle.fraction.specs.Fraction.{floorOf}
+use Rattle.fraction_c.proofs.fraction_floor.Statement.{statement}
+use Rattle.fraction_c.proofs.fraction_floor.Tie as tie
+use Rattle.fraction_c.proofs.Stores.{of-one}
+
+floor-requires : tie.Need-floor-requires
+floor-requires c κs = search needs
+
+store-whole-requires : tie.Need-store-whole-requires
+store-whole-requires c κs = search needs
+
+returns : tie.Need-returns
+returns c =
+    let p = c .before .before in
+    let f = p .before .fits in
+    of-one (c .store-whole .ensures) floorOf (f .num) (f .den) (p .floor .ensures)
+
+pub fraction-floor-spec : {M : Type 1} → statement M
+fraction-floor-spec = tie.close (tie.spec floor-requires store-whole-requires returns)

@@ -1,0 +1,11 @@
+pub mod Refusals
+pub mod Tree
+pub mod Format
+pub mod Spelling
+pub mod Certificate
+pub mod Reading
+pub mod Agreement
+pub mod Layout
+pub mod Texts
+pub mod Tables
+pub mod Worked

@@ -1,0 +1,3 @@
+-- Laws that the proofs of reading cite.
+pub mod Tables
+pub mod Laws
