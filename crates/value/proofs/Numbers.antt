@@ -1,13 +1,12 @@
 -- Digits, zeros and the numbers that they spell.
 -- Assumes nothing.
 use mathlib.Core.Path.{_≡_, refl, sym, _∙_, ap, subst}
-use mathlib.Core.Bool.{Bool, true, false, cond, _&&_, and-false}
-use mathlib.Core.List.{List, [], _∷_, _++_, append-nil}
-use Prim.Native.Nat.{ℕ, zero, suc, _+_, _-_, _*_, _^_, _≤_, _<_}
-use native.Mathlib.Nat.{mul-one, mul-assoc, mul-comm, pow-zero, pow-succ'}
+use mathlib.Core.Bool.{Bool, true, false, _&&_, and-false}
+use mathlib.Core.List.{[], _∷_, _++_, append-nil}
+use Prim.Native.Nat.{ℕ, suc, _+_, _-_, _*_, _^_, _≤_, _<_}
+use native.Mathlib.Nat.{mul-one, mul-assoc, pow-succ'}
 use native.Mathlib.Omega.{arith}
 use borrow.Author.Tests.{eqb-true}
-use lib.Dec.{eqb}
 use lib.ListN.{length, drop, length-append}
 use lib.Seq.{length-take-le, take-all}
 use Rattle.text.specs.Bytes.{Bytes, isDigit, every, leading, isNumeral, numberAfter, numberOf}
@@ -40,10 +39,6 @@ trailing-number n z (b ∷ d) e =
     rw t (all-zeros n (b ∷ d) t ∙ ap (λ (k : ℕ). n * 10 ^ k) (omega arith)))
     (λ t. let f : z + suc (decimalDigits d) ≡ suc (length d) = rw t at e in
     rw t (trailing-number (n * 10 + (b - 48)) z d (omega arith)))
-
-pub decimal-le : (d : Bytes) → decimalDigits d ≤ length d
-decimal-le [] = omega arith
-decimal-le (b ∷ d) = by-test (every isZero (b ∷ d)) (λ t. rw t (omega arith)) (λ t. rw t (omega (arith, decimal-le d)))
 
 -- ---- one digit more
 

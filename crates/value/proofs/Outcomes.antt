@@ -1,29 +1,28 @@
 -- The outcome of a written form, by what the code has read of its parts.
 -- Assumes nothing.
-use mathlib.Core.Path.{_≡_, refl, sym, _∙_, ap, subst}
-use mathlib.Core.Bool.{Bool, true, false, not, _&&_}
-use mathlib.Core.List.{List, [], _∷_, _++_}
-use mathlib.Core.Option.{Option, none, some}
+use mathlib.Core.Path.{_≡_, sym, _∙_, ap}
+use mathlib.Core.Bool.{Bool, true, false}
+use mathlib.Core.List.{_∷_, _++_}
+use mathlib.Core.Option.{some}
 use Prim.Native.Nat.{ℕ, _+_, _-_, _*_, _^_, _≤_, _<_}
 use native.Mathlib.Omega.{arith}
-use borrow.Author.Tests.{lt-ltb, le-ltb, ne-eqb}
+use borrow.Author.Tests.{lt-ltb, le-ltb}
 use lib.ListN.{length}
 use lib.Pow.{pow-add}
 use Rattle.integers.specs.Signs.{withSign}
-use Rattle.text.specs.Bytes.{Bytes, isDigit, every, leading, isNumeral, numberAfter, numberOf}
-use Rattle.fraction.specs.Outcome.{Outcome, gives, refuses}
-use Rattle.fraction.specs.Quotient.{Quotient, lowest}
+use Rattle.text.specs.Bytes.{Bytes, every, isNumeral, numberAfter, numberOf}
+use Rattle.fraction.specs.Outcome.{refuses}
+use Rattle.fraction.specs.Quotient.{lowest}
 use Rattle.fraction.specs.Parts.{over}
-use Rattle.fraction.specs.declared.Fraction.{Fraction}
-use Rattle.value.specs.Spelling.{Tail, nothing, point, slash, Written, isZero, quotientOf, mostDigits, wholeDigits, decimalDigits, dropTrailing}
-use Rattle.value.specs.Reading.{digitsOf, afterDigits, tailOf, withTail, unsignedForm, narrowed, outcomeOf}
-use Rattle.value.specs.Forms.{by-test, numeral-digits}
+use Rattle.value.specs.Spelling.{nothing, isZero, quotientOf, mostDigits, wholeDigits, decimalDigits}
+use Rattle.value.specs.Reading.{tailOf, withTail, narrowed, outcomeOf}
+use Rattle.value.specs.Forms.{numeral-digits}
 use Rattle.value.specs.Agreement.{number-positive}
 use Rattle.value.specs.Promise.{powerOfTen}
 use Rattle.value.specs.Runs.{Grown, Stands}
 use Rattle.value.specs.declared.Digits.{Digits}
 use Rattle.value.proofs.Powers.{ten-positive, power-within}
-use Rattle.value.proofs.Numbers.{number-append, trailing-number, decimal-le, leading-none, leading-some}
+use Rattle.value.proofs.Numbers.{number-append, trailing-number, leading-none, leading-some}
 use Rattle.value.proofs.Widths.{lowest-whole, lowest-scaled}
 
 -- the power of ten for the digits of a decimal part that are no trailing zeros

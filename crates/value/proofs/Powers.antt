@@ -8,7 +8,6 @@ use native.Mathlib.Omega.{arith}
 use borrow.Author.Tests.{le-leb, lt-leb}
 use lib.Dec.{lit<}
 use lib.Pow.{pow-add}
-use Rattle.value.specs.Spelling.{mostDigits}
 use Rattle.value.specs.Promise.{powerOfTen}
 
 pub ten-next : (i : ℕ) → 10 ^ i * 10 ≡ 10 ^ (i + 1)
@@ -18,17 +17,17 @@ pub ten-positive : (i : ℕ) → 0 < 10 ^ i
 ten-positive i = one-le-pow i 10 (omega arith)
 
 -- a power of at most 18 fits 64 bits
-pub ten-fits : (i : ℕ) → i ≤ mostDigits → 10 ^ i < 2 ^ 64
+pub ten-fits : (i : ℕ) → i ≤ 18 → 10 ^ i < 2 ^ 64
 ten-fits i h = lt-of-le-of-lt (pow-le-pow-right (lit< tt) h) (lit< tt)
 
 -- the two answers of `powerOfTen`
-pub power-within : (k : ℕ) → k ≤ mostDigits → powerOfTen k ≡ 10 ^ k
+pub power-within : (k : ℕ) → k ≤ 18 → powerOfTen k ≡ 10 ^ k
 unfolding powerOfTen
-power-within k h = rw (le-leb k mostDigits h)
+power-within k h = rw (le-leb k 18 h)
 
-pub power-beyond : (k : ℕ) → mostDigits < k → powerOfTen k ≡ 0
+pub power-beyond : (k : ℕ) → 18 < k → powerOfTen k ≡ 0
 unfolding powerOfTen
-power-beyond k h = rw (lt-leb k mostDigits h)
+power-beyond k h = rw (lt-leb k 18 h)
 
 -- a number below a power, with so many digits after it
 pub appended-below : (n m i j : ℕ) → n < 10 ^ i → m < 10 ^ j → n * 10 ^ j + m < 10 ^ (i + j)

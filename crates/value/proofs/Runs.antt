@@ -1,8 +1,8 @@
 -- A run of digits, as the loop of `read_run` goes along it, and the whole part that is made of one.
 -- Assumes nothing.
 use mathlib.Core.Path.{_≡_, refl, sym, _∙_, ap, subst}
-use mathlib.Core.Bool.{Bool, true, false, _&&_}
-use mathlib.Core.List.{List, [], _∷_, _++_}
+use mathlib.Core.Bool.{true, false}
+use mathlib.Core.List.{[], _∷_, _++_}
 use Prim.Native.Nat.{ℕ, _+_, _-_, _*_, _^_, _≤_, _<_}
 use native.Mathlib.Nat.{add-zero}
 use native.Mathlib.Omega.{arith}
@@ -15,7 +15,7 @@ use Rattle.text.specs.BytesLaws.{both, every-append, leading-le, uncons}
 use Rattle.value.specs.Spelling.{isZero, mostDigits, dropLeading, wholeDigits}
 use Rattle.value.specs.Reading.{digitsOf}
 use Rattle.value.specs.Forms.{Stops, digits-lead, digits-are}
-use Rattle.value.specs.Runs.{Sound, Grown, Appended, Longer, RunRead, Stands, WholeRead}
+use Rattle.value.specs.Runs.{Bounded, Grown, Appended, Longer, RunRead, WholeRead}
 use Rattle.value.specs.declared.Digits.{Digits}
 use Rattle.value.specs.declared.Run.{Run}
 use Rattle.value.proofs.Numbers.{length-more, trailing-number, leading-number, skip-digits, skip-length, length-digits}
@@ -33,17 +33,17 @@ pub record Reading (token : Bytes) (from at : ℕ) (s d : Digits) : Type 0 where
   pub place : at ≡ from + length read
   pub split : drop from token ≡ read ++ drop at token
   pub grown : Grown s read d
-  pub sound : Sound at d
+  pub bounded : Bounded at d
 
 module _ (token : Bytes) (from : ℕ) (s : Digits) where
-  pub reading-starts : Sound from s → s .zeros ≡ 0 → Reading token from from s s
+  pub reading-starts : Bounded from s → s .zeros ≡ 0 → Reading token from from s s
   reading-starts h z = record {
     read = [];
     all-digits = refl;
     place = omega arith;
     split = refl;
     grown = record { counts = omega arith; spells = λ k. refl; trails = omega arith };
-    sound = h;
+    bounded = h;
   }
 
   module _ (at : ℕ) (d : Digits) (l : Reading token from at s d) where
@@ -57,7 +57,7 @@ module _ (token : Bytes) (from : ℕ) (s : Digits) where
           place = rw (length-more (l .read) b) (omega (arith, l .place));
           split = l .split ∙ ap (λ (t : Bytes). l .read ++ t) (uncons token at h) ∙ sym (append-snoc (l .read) b (drop (at + 1) token));
           grown = subst (λ (x : ℕ). Grown s (l .read ++ (x ∷ [])) r) same (k .grows s (l .read) (l .grown));
-          sound = record { short = omega (arith, k .by-one, l .sound .short); small = k .small };
+          bounded = record { short = omega (arith, k .by-one, l .bounded .short); small = k .small };
         }
 
     pub reading-ends : Stops (drop at token) → RunRead (drop from token) from s (record { digits = d; next = at })
@@ -67,7 +67,7 @@ module _ (token : Bytes) (from : ℕ) (s : Digits) where
         record {
           next-is = omega (arith, l .place);
           grown = subst (λ (q : Bytes). Grown s q d) (sym e) (l .grown);
-          sound = l .sound;
+          bounded = l .bounded;
         }
 
 pub stops-there : (token : Bytes) (at : ℕ) → at < length token → isDigit (getD token at 0) ≡ false → Stops (drop at token)
@@ -80,10 +80,10 @@ stops-past token at h = rw (drop-of-length-le token h) tt
 
 module _ (s : Digits) (t : Bytes) (from : ℕ) (r : Run) (h : RunRead t from s r) where
   -- the digits of a run, with the zeros at its end
-  pub run-length : r .digits .count + r .digits .zeros ≡ s .count + leading isDigit t
+  run-length : r .digits .count + r .digits .zeros ≡ s .count + leading isDigit t
   run-length = omega (arith, h .grown .counts, h .grown .trails, length-digits t)
 
-  pub run-number : (d : Digits) → Appended (r .digits) (r .digits .zeros) 0 d → d .count ≤ mostDigits → d .number ≡ numberAfter (s .number) (digitsOf t)
+  run-number : (d : Digits) → Appended (r .digits) (r .digits .zeros) 0 d → d .count ≤ mostDigits → d .number ≡ numberAfter (s .number) (digitsOf t)
   run-number d k small =
       k .spells small
       ∙ add-zero (r .digits .number * 10 ^ r .digits .zeros)
@@ -116,5 +116,5 @@ module _ (token : Bytes) (from first : ℕ) (f : first ≡ from + leading isZero
           spells = λ m. run-number s (drop first token) first r h d k m ∙ ap (λ (x : ℕ). numberAfter x (digitsOf (drop first token))) n ∙ ap numberOf skipped ∙ leading-number whole;
           none-left = k .none-left;
         };
-        sound = record { short = omega (arith, k .counts, k .none-left, h .sound .short); small = k .small };
+        bounded = record { short = omega (arith, k .counts, k .none-left, h .bounded .short); small = k .small };
       }

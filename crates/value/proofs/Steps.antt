@@ -2,14 +2,13 @@
 -- Assumes nothing.
 use mathlib.Core.Path.{_≡_, refl, sym, _∙_, ap}
 use mathlib.Core.Bool.{false}
-use mathlib.Core.List.{List, [], _∷_, _++_}
+use mathlib.Core.List.{[], _∷_, _++_}
 use Prim.Native.Nat.{ℕ, _+_, _-_, _*_, _^_, _≤_, _<_}
 use native.Mathlib.Nat.{lt-trans, mul-assoc}
 use native.Mathlib.Omega.{arith}
 use borrow.Author.Tests.{ne-eqb}
-use lib.ListN.{length}
 use Rattle.text.specs.Bytes.{Bytes, numberAfter}
-use Rattle.value.specs.Spelling.{isZero, dropTrailing, mostDigits, decimalDigits}
+use Rattle.value.specs.Spelling.{isZero, dropTrailing, mostDigits}
 use Rattle.value.specs.Promise.{powerOfTen}
 use Rattle.value.specs.Runs.{Grown, Appended, Longer}
 use Rattle.value.specs.declared.Digits.{Digits}

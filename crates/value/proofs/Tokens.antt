@@ -1,8 +1,8 @@
 -- The form of a token, by where the first digits end and what stands there.
 -- Assumes nothing.
-use mathlib.Core.Path.{_≡_, refl, sym, _∙_, ap, subst}
+use mathlib.Core.Path.{_≡_, refl, sym, _∙_, ap}
 use mathlib.Core.Bool.{Bool, true, false}
-use mathlib.Core.List.{List, [], _∷_}
+use mathlib.Core.List.{[], _∷_}
 use mathlib.Core.Option.{Option, none, some}
 use Prim.Native.Nat.{ℕ, _+_, _≤_, _<_}
 use native.Mathlib.Omega.{arith}
@@ -11,7 +11,7 @@ use lib.ListN.{length, getD, drop, drop-of-length-le}
 use lib.Seq.{drop-drop}
 use Rattle.text.specs.Bytes.{Bytes, isDigit, leading, isNumeral}
 use Rattle.text.specs.BytesLaws.{uncons, leading-every}
-use Rattle.fraction.specs.Outcome.{Outcome, refuses}
+use Rattle.fraction.specs.Outcome.{refuses}
 use Rattle.value.specs.Spelling.{Tail, nothing}
 use Rattle.value.specs.Reading.{digitsOf, afterDigits, tailOf, withTail, unsignedForm, formOf, outcomeOf, readValue}
 use Rattle.value.specs.Forms.{by-test}

@@ -11,13 +11,11 @@ use lib.Signed.{quotZ}
 use Rattle.integers.specs.Gcd.{gcd, gcd-right}
 use Rattle.integers.specs.Integers.{*ℤ-neg-l}
 use Rattle.integers.specs.Signs.{withSign, natAbs-withSign}
-use Rattle.fraction.specs.Outcome.{Outcome, gives, refuses}
-use Rattle.fraction.specs.Quotient.{Quotient, _≈_, lowest}
+use Rattle.fraction.specs.Outcome.{gives, refuses}
+use Rattle.fraction.specs.Quotient.{_≈_, lowest}
 use Rattle.fraction.specs.QuotientLaws.{≈-refl, lowest-is, lowest-cong}
 use Rattle.fraction.specs.Parts.{over}
 use Rattle.fraction.specs.Fraction.{limit}
-use Rattle.fraction.specs.declared.Fraction.{Fraction}
-use Rattle.value.specs.Spelling.{asFraction}
 use Rattle.value.specs.Reading.{narrowed}
 
 -- ---- the three ways out of `narrow`

@@ -1,26 +1,25 @@
--- The reading agrees with the relation: `value-read` has it whole. What a token spells is the rational number that it is
--- written as, exactly: `spelled-exact`.
+-- The reading agrees with the relation, for every token: `value-read`. A token is written in one way at most: `written-once`.
 -- Assumes nothing.
 use mathlib.Core.Path.{_≡_, refl, sym, _∙_, ap, subst}
-use mathlib.Core.Bool.{Bool, true, false, cond, _||_}
-use mathlib.Core.List.{List, [], _∷_}
-use mathlib.Core.Logic.{_↔_, _⊎_, inl, inr, ⊎-elim}
+use mathlib.Core.Bool.{Bool, true, false, _||_}
+use mathlib.Core.List.{[], _∷_}
+use mathlib.Core.Logic.{_⊎_, inl, inr, ⊎-elim}
 use mathlib.Core.Option.{Option, none, some}
-use Prim.Native.Nat.{ℕ, _+_, _-_, _*_, _^_, _≤_, _<_}
+use Prim.Native.Nat.{ℕ, _+_, _-_, _*_, _≤_, _<_}
 use native.Mathlib.Nat.{one-le-pow}
 use native.Mathlib.Omega.{arith}
 use borrow.Author.Tests.{ltb-true, ltb-false, lt-ltb, eqb-false, leb-true}
 use lib.Dec.{ltb, leb, lt→ltb}
-use lib.IntN.{pos, natAbs}
+use lib.IntN.{natAbs}
 use lib.ListN.{length}
-use Rattle.text.specs.Bytes.{Bytes, isDigit, every, isNumeral, numberAfter, numberOf}
+use Rattle.text.specs.Bytes.{Bytes, isDigit, every, numberAfter}
 use Rattle.text.specs.BytesLaws.{clash, both}
 use Rattle.fraction.specs.Outcome.{Outcome, gives, refuses}
-use Rattle.fraction.specs.Quotient.{Quotient, lowest, _≈_}
+use Rattle.fraction.specs.Quotient.{lowest, _≈_}
 use Rattle.fraction.specs.QuotientLaws.{Positive, lowest-positive, lowest-coprime, lowest-equal}
 use Rattle.fraction.specs.Fraction.{limit, IsFraction, exact}
 use Rattle.fraction.specs.declared.Fraction.{Fraction}
-use Rattle.value.specs.Spelling.{Tail, nothing, point, slash, Written, isZero, TailWellFormed, WellFormed, Writes, bottomOf, quotientOf, asFraction, mostDigits, wholeDigits, decimalDigits, TooManyDigits, BeyondLimit, TooWide, SpellsValue, SpellsTooWide, Misspelled}
+use Rattle.value.specs.Spelling.{Tail, nothing, point, slash, Written, isZero, TailWellFormed, WellFormed, Writes, bottomOf, quotientOf, asFraction, mostDigits, wholeDigits, decimalDigits, TooManyDigits, BeyondLimit, TooWide, SpellsValue, Misspelled}
 use Rattle.value.specs.Reading.{formOf, tooManyDigits, beyondLimit, narrowed, outcomeOf, readValue}
 use Rattle.value.specs.Promise.{ValueRead}
 use Rattle.value.specs.Forms.{by-test, nothing-found, numeral-digits, form-found, found-writes}
@@ -83,7 +82,7 @@ number-positive n (b ∷ d) e z =
     (λ h. let p : 48 < b = digit-positive b (both (isDigit b) (every isDigit d) e .0) h in
     omega (arith, number-grows (n * 10 + (b - 48)) d))
 
-pub bottom-positive : (tail : Tail) → TailWellFormed tail → 0 < bottomOf tail
+bottom-positive : (tail : Tail) → TailWellFormed tail → 0 < bottomOf tail
 bottom-positive nothing f = omega arith
 bottom-positive (point d) f = one-le-pow (length d) 10 (omega arith)
 bottom-positive (slash d) f = number-positive 0 d (numeral-digits d (f .0)) (f .1)
@@ -94,37 +93,35 @@ quotient-positive w h = bottom-positive (w .tail) (h .tail-digits)
 
 -- ---- what a token spells is a fraction, and the number that is written
 
-spelled-fraction : (f : Fraction) (token : Bytes) → SpellsValue f token → IsFraction f
-spelled-fraction f token s =
+at-most : (n : ℕ) → (limit < n → ⊥) → n ≤ limit
+at-most n h = by-test (ltb limit n) (λ e. absurd (h (ltb-true limit n e))) (λ e. ltb-false limit n e)
+
+spelled-exactly : (token : Bytes) (f : Fraction) (s : SpellsValue f token) → IsFraction f × (exact f ≈ quotientOf (s .written))
+spelled-exactly token f s =
     let q = quotientOf (s .written) in
     let h : Positive q = quotient-positive (s .written) (s .writes .well-formed) in
     let within : BeyondLimit (lowest q) → ⊥ = λ b. s .not-too-wide (inr b) in
-    subst IsFraction (s .value)
-    (record {
-      positive = record { lt = lt→ltb 0 (lowest q .bottom) (lowest-positive q h) };
-      num-within = at-most (natAbs (lowest q .top)) (λ k. within (inl k));
-      den-within = at-most (lowest q .bottom) (λ k. within (inr k));
-      lowest-terms = lowest-coprime q h;
-    })
-  where
-    at-most : (n : ℕ) → (limit < n → ⊥) → n ≤ limit
-    at-most n h = by-test (ltb limit n) (λ e. absurd (h (ltb-true limit n e))) (λ e. ltb-false limit n e)
-
-pub spelled-exact : (f : Fraction) (token : Bytes) (s : SpellsValue f token) → exact f ≈ quotientOf (s .written)
-spelled-exact f token s =
-    subst (λ (g : Fraction). exact g ≈ quotientOf (s .written)) (s .value)
-    (lowest-equal (quotientOf (s .written)) (quotient-positive (s .written) (s .writes .well-formed)))
+    subst (λ (g : Fraction). IsFraction g × (exact g ≈ q)) (s .value) (
+      record {
+        positive = record { lt = lt→ltb 0 (lowest q .bottom) (lowest-positive q h) };
+        num-within = at-most (natAbs (lowest q .top)) (λ k. within (inl k));
+        den-within = at-most (lowest q .bottom) (λ k. within (inr k));
+        lowest-terms = lowest-coprime q h;
+      },
+      lowest-equal q h,
+    )
 
 -- ---- the whole agreement
 
-same-form : (w v : Written) (token : Bytes) → Writes w token → Writes v token → w ≡ v
-same-form w v token p q =
+-- a token is written in one way at most
+pub written-once : (w v : Written) (token : Bytes) → Writes w token → Writes v token → w ≡ v
+written-once w v token p q =
     let e : some w ≡ some v = sym (form-found w token p) ∙ form-found v token q in
     cc
 
 spelled-once : (token : Bytes) (f g : Fraction) → SpellsValue f token → SpellsValue g token → f ≡ g
 spelled-once token f g s t =
-    sym (s .value) ∙ ap (λ (w : Written). asFraction (lowest (quotientOf w))) (same-form (s .written) (t .written) token (s .writes) (t .writes)) ∙ t .value
+    sym (s .value) ∙ ap (λ (w : Written). asFraction (lowest (quotientOf w))) (written-once (s .written) (t .written) token (s .writes) (t .writes)) ∙ t .value
 
 refused-given : {X : Type 0} {n : ℕ} {f : Fraction} → refuses n ≡ gives f → X
 refused-given e = absurd (let z : _≡_ {A = ℕ} 0 1 = cc in omega arith)
@@ -141,45 +138,47 @@ module _ (token : Bytes) where
     refuses-misspelled = (λ p. m, λ p. refl);
     only-4-or-7 = λ n p. inl (sym (same-refusal p));
     spells-one = spelled-once token;
-    gives-fraction = λ f p. refused-given p;
+    spells-exactly = spelled-exactly token;
   }
 
   module _ (w : Written) (h : Writes w token) where
     read-too-wide : readValue token ≡ refuses 7 → TooWide w → ValueRead token (refuses 7)
     read-too-wide e wide = record {
       by-definition = sym e;
-      gives-spelled = λ f. (λ p. refused-given p, λ s. absurd (s .not-too-wide (subst TooWide (same-form w (s .written) token h (s .writes)) wide)));
+      gives-spelled = λ f. (λ p. refused-given p, λ s. absurd (s .not-too-wide (subst TooWide (written-once w (s .written) token h (s .writes)) wide)));
       refuses-too-wide = (λ p. record { written = w; writes = h; too-wide = wide }, λ p. refl);
       refuses-misspelled = (λ p. absurd (eqb-false 7 4 refl (same-refusal p)), λ m. absurd (m w h));
       only-4-or-7 = λ n p. inr (sym (same-refusal p));
       spells-one = spelled-once token;
-      gives-fraction = λ f p. refused-given p;
+      spells-exactly = spelled-exactly token;
     }
 
     read-spelled : (f : Fraction) → readValue token ≡ gives f → SpellsValue f token → ValueRead token (gives f)
     read-spelled f e s = record {
       by-definition = sym e;
       gives-spelled = λ g. (λ p. subst (λ (x : Fraction). SpellsValue x token) (cc) s, λ t. ap gives (spelled-once token f g s t));
-      refuses-too-wide = (λ p. refused-given (sym p), λ t. absurd (s .not-too-wide (subst TooWide (same-form (t .written) (s .written) token (t .writes) (s .writes)) (t .too-wide))));
+      refuses-too-wide = (λ p. refused-given (sym p), λ t. absurd (s .not-too-wide (subst TooWide (written-once (t .written) (s .written) token (t .writes) (s .writes)) (t .too-wide))));
       refuses-misspelled = (λ p. refused-given (sym p), λ m. absurd (m w h));
       only-4-or-7 = λ n p. refused-given (sym p);
       spells-one = spelled-once token;
-      gives-fraction = λ g p. subst IsFraction (cc) (spelled-fraction f token s);
+      spells-exactly = spelled-exactly token;
     }
 
 pub value-read : (token : Bytes) → ValueRead token (readValue token)
 unfolding readValue outcomeOf
 value-read token = go (formOf token) refl
   where
-    found : (w : Written) → Writes w token → (o : Outcome Fraction) → readValue token ≡ o → ValueRead token o → ValueRead token (readValue token)
-    found w h o e r = subst (ValueRead token) (sym e) r
+    held : {o : Outcome Fraction} → readValue token ≡ o → ValueRead token o → ValueRead token (readValue token)
+    held e r = subst (ValueRead token) (sym e) r
 
     go : (o : Option Written) → formOf token ≡ o → ValueRead token (readValue token)
-    go none e = subst (ValueRead token) (sym (ap outcomeOf e)) (read-misspelled token (ap outcomeOf e) (λ w h. nothing-found (sym e ∙ form-found w token h)))
+    go none e =
+        let r : readValue token ≡ refuses 4 = ap outcomeOf e in
+        held r (read-misspelled token r (λ w h. nothing-found (sym e ∙ form-found w token h)))
     go (some w) e =
         let h : Writes w token = found-writes token w e in
         ⊎-elim
-        (λ d. found w h (refuses 7) (ap outcomeOf e ∙ d .0) (read-too-wide token w h (ap outcomeOf e ∙ d .0) (d .1)))
+        (λ d. let r : readValue token ≡ refuses 7 = ap outcomeOf e ∙ d .0 in held r (read-too-wide token w h r (d .1)))
         (λ d. let r : readValue token ≡ gives (asFraction (lowest (quotientOf w))) = ap outcomeOf e ∙ d .0 in
-        found w h _ r (read-spelled token w h _ r (record { written = w; writes = h; not-too-wide = d .1; value = refl })))
+        held r (read-spelled token w h _ r (record { written = w; writes = h; not-too-wide = d .1; value = refl })))
         (decided w)

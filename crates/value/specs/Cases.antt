@@ -1,25 +1,19 @@
 -- The cases of document 01, "Numbers on either side", that are marked P: one list, under one statement, `cases-hold`. Each
--- is held to the definitions that the contracts cite. The other cases of that list are run (crate `value_cases`).
+-- is held to the definitions that the contracts cite. The list's other cases are run (crates value_cases, fraction_cases).
 -- Assumes nothing.
 use mathlib.Core.Path.{_≡_, refl}
 use mathlib.Core.List.{List, [], _∷_}
-use Prim.Native.Nat.{ℕ}
-use Prim.Native.Char.{code}
-use Prim.Native.String.{String, [] as empty, _∷_ as _before_}
-use lib.IntN.{ℤ, pos, negsuc}
+use Prim.Native.String.{String}
+use lib.IntN.{ℤ, pos, negℤ}
 use Rattle.integers.specs.Gcd.{gcd, euclid}
-use Rattle.text.specs.Bytes.{Bytes, isDigit}
+use Rattle.text.specs.Bytes.{isDigit}
+use Rattle.text.specs.Ascii.{ascii}
 use Rattle.fraction.specs.Outcome.{Outcome, gives, refuses}
 use Rattle.fraction.specs.Quotient.{lowest, floorZ, ceilingZ}
 use Rattle.fraction.specs.Fraction.{isFraction, within, onFractions, productOf, floorOf, ceilingOf}
 use Rattle.fraction.specs.declared.Fraction.{Fraction}
 use Rattle.value.specs.Spelling.{quotientOf}
 use Rattle.value.specs.Reading.{narrowed, outcomeOf, readValue}
-
--- the bytes of a token that is given in quotes
-abbrev pub ascii : String → Bytes
-ascii empty = []
-ascii (c before s) = code c ∷ ascii s
 
 infix 5 _over_
 abbrev pub _over_ : ℤ → ℤ → Fraction
@@ -59,9 +53,9 @@ cases =
     -- "`1/0` 4"
     ∷ reads "1/0" (refuses 4)
     -- "floor(-1/2) = -1"
-    ∷ floors (negsuc 0 over pos 2) (gives (negsuc 0))
+    ∷ floors (negℤ (pos 1) over pos 2) (gives (negℤ (pos 1)))
     -- "ceiling(-1/2) = 0"
-    ∷ ceilings (negsuc 0 over pos 2) (gives (pos 0))
+    ∷ ceilings (negℤ (pos 1) over pos 2) (gives (pos 0))
     -- "1/65536 times 1/32768 is 12"
     ∷ products (pos 1 over pos 65536) (pos 1 over pos 32768) (refuses 12)
     ∷ []

@@ -1,8 +1,8 @@
 -- `formOf` finds the written form of a token exactly where there is one, so a token is written in one way at most.
 -- Assumes nothing.
 use mathlib.Core.Path.{_≡_, refl, sym, _∙_, ap, subst}
-use mathlib.Core.Bool.{Bool, true, false, cond, not, _&&_}
-use mathlib.Core.List.{List, [], _∷_, _++_}
+use mathlib.Core.Bool.{Bool, true, false, not, _&&_}
+use mathlib.Core.List.{[], _∷_, _++_}
 use mathlib.Core.Option.{Option, none, some}
 use Prim.Native.Nat.{ℕ, _+_, _≤_}
 use native.Mathlib.Nat.{add-zero}
@@ -13,7 +13,7 @@ use lib.ListN.{length, take, drop, take-append-drop}
 use lib.Seq.{take-append-seam, drop-append-seam}
 use Rattle.text.specs.Bytes.{Bytes, isDigit, every, leading, isNumeral}
 use Rattle.text.specs.BytesLaws.{clash, both, leading-append}
-use Rattle.value.specs.Spelling.{Tail, nothing, point, slash, Written, signBytes, tailBytes, bytesOf, isZero, TailWellFormed, WellFormed, Writes}
+use Rattle.value.specs.Spelling.{Tail, nothing, point, slash, Written, signBytes, tailBytes, isZero, TailWellFormed, WellFormed, Writes}
 use Rattle.value.specs.Reading.{digitsOf, afterDigits, tailOf, withTail, unsignedForm, formOf}
 
 -- ---- tests
@@ -28,7 +28,7 @@ nothing-found e = absurd (let z : _≡_ {A = ℕ} 0 1 = cc in omega arith)
 
 -- ---- the digits at the start
 
-pub digits-split : (t : Bytes) → digitsOf t ++ afterDigits t ≡ t
+digits-split : (t : Bytes) → digitsOf t ++ afterDigits t ≡ t
 digits-split t = take-append-drop (leading isDigit t) t
 
 -- bytes that do not go on with a digit
@@ -63,7 +63,7 @@ tail-stops nothing = tt
 tail-stops (point d) = refl
 tail-stops (slash d) = refl
 
-pub tail-found : (tail : Tail) → TailWellFormed tail → tailOf (tailBytes tail) ≡ some tail
+tail-found : (tail : Tail) → TailWellFormed tail → tailOf (tailBytes tail) ≡ some tail
 tail-found nothing f = refl
 tail-found (point d) f = rw f
 tail-found (slash d) f = rw (f .0, f .1)

@@ -1,13 +1,16 @@
 -- What the code's digits stand for: the terms of its private contracts. No public contract cites this file.
 -- Assumes nothing.
 use mathlib.Core.Path.{_≡_}
-use mathlib.Core.Bool.{true, false}
-use mathlib.Core.List.{List, [], _∷_, _++_}
+use mathlib.Core.Bool.{Bool, true, false}
+use mathlib.Core.List.{[], _∷_, _++_}
+use mathlib.Core.Option.{Option}
 use Prim.Native.Nat.{ℕ, _+_, _*_, _^_, _≤_, _<_}
 use lib.ListN.{length}
 use Rattle.text.specs.Bytes.{Bytes, isDigit, leading, isNumeral, numberAfter, numberOf}
-use Rattle.value.specs.Spelling.{dropTrailing, mostDigits, wholeDigits, decimalDigits}
-use Rattle.value.specs.Reading.{digitsOf}
+use Rattle.fraction.specs.Outcome.{Outcome}
+use Rattle.fraction.specs.declared.Fraction.{Fraction}
+use Rattle.value.specs.Spelling.{Tail, dropTrailing, mostDigits, wholeDigits, decimalDigits}
+use Rattle.value.specs.Reading.{digitsOf, withTail, outcomeOf}
 use Rattle.value.specs.declared.Digits.{Digits}
 use Rattle.value.specs.declared.Run.{Run}
 use Rattle.value.specs.declared.Part.{Part}
@@ -17,8 +20,8 @@ use Rattle.value.specs.declared.Part.the-variants as part
 abbrev pub room : ℕ
 room = 2 ^ 63
 
--- nothing overflows in d: it has at most n digits, and a number below the power of ten of those that count
-pub record Sound (n : ℕ) (d : Digits) : Type 0 where
+-- d has at most n digits, and its number is below the power of ten of those that count: so nothing overflows
+pub record Bounded (n : ℕ) (d : Digits) : Type 0 where
   pub short : d .count + d .zeros ≤ n
   pub small : d .number < 10 ^ d .count
 
@@ -45,9 +48,9 @@ pub record Longer (d : Digits) (digit : ℕ) (r : Digits) : Type 0 where
 pub record RunRead (t : Bytes) (from : ℕ) (s : Digits) (r : Run) : Type 0 where
   pub next-is : r .next ≡ from + leading isDigit t
   pub grown : Grown s (digitsOf t) (r .digits)
-  pub sound : Sound (r .next) (r .digits)
+  pub bounded : Bounded (r .next) (r .digits)
 
--- d is the whole part w
+-- d is the whole part w, of which no zero is held back
 pub record Stands (w : Bytes) (d : Digits) : Type 0 where
   pub counts : d .count ≡ wholeDigits w
   pub spells : d .count ≤ mostDigits → d .number ≡ numberOf w
@@ -57,9 +60,13 @@ pub record Stands (w : Bytes) (d : Digits) : Type 0 where
 pub record WholeRead (t : Bytes) (from : ℕ) (r : Run) : Type 0 where
   pub next-is : r .next ≡ from + leading isDigit t
   pub stands : Stands (digitsOf t) (r .digits)
-  pub sound : Sound (r .next) (r .digits)
+  pub bounded : Bounded (r .next) (r .digits)
 
--- the digits d of a run that t starts with are the whole of t, or t is no numeral
+-- the digits d of the run that t starts with, where they are all of t; or t is no numeral
 abbrev pub Ended : Bytes → Digits → Part → Type 0
 Ended t d (part.Digits e) = (isNumeral t ≡ true) × (e ≡ d)
 Ended t d part.NotDigits = isNumeral t ≡ false
+
+-- o is the outcome of the form with this sign, the whole part that d is, and this tail
+abbrev pub WithTail : Bool → Digits → Option Tail → Outcome Fraction → Type 0
+WithTail s d tail o = (w : Bytes) → Stands w d → o ≡ outcomeOf (withTail s w tail)

@@ -4,7 +4,7 @@
 -- Assumes nothing.
 use mathlib.Core.Path.{_≡_}
 use mathlib.Core.Bool.{Bool, true, false, cond}
-use mathlib.Core.List.{List, [], _∷_, _++_}
+use mathlib.Core.List.{[], _∷_, _++_}
 use mathlib.Core.Logic.{_⊎_}
 use Prim.Native.Nat.{ℕ, _+_, _^_, _<_}
 use lib.Dec.{eqb}
@@ -84,17 +84,18 @@ asFraction x = record { num = x .top; den = pos (x .bottom) }
 
 -- ---- its width
 
--- "after dropping leading zeros of each whole part": of a numerator, a denominator, or what stands before a point. A lone
--- `0` is a leading zero too
+-- "after dropping leading zeros of each whole part": of a numerator, of a denominator (`1/00002`), of what stands before a
+-- point. A lone `0` is a leading zero too, so `0.000003814697265625` has 18 digits
 abbrev pub dropLeading : Bytes → Bytes
 dropLeading w = drop (leading isZero w) w
 
--- "and trailing zeros of a decimal part": what stands after a point. Its other zeros count
+-- "and trailing zeros of a decimal part": of what stands after a point. Its other zeros count
 abbrev pub dropTrailing : Bytes → Bytes
 dropTrailing [] = []
 dropTrailing (b ∷ d) = cond (every isZero (b ∷ d)) [] (b ∷ dropTrailing d)
 
--- "more than 18 digits in numerator, denominator or decimal (both its parts together)"
+-- "more than 18 digits in numerator, denominator or decimal (both its parts together)". The digits are counted as they are
+-- written, before lowest terms: `0/1000000000000000000` has 19
 abbrev pub mostDigits : ℕ
 mostDigits = 18
 
@@ -118,19 +119,20 @@ TooWide w = TooManyDigits (w .whole) (w .tail) ⊎ BeyondLimit (lowest (quotient
 
 -- ---- what a token spells
 
--- the fraction f
+-- a fraction: the number that is written, in lowest terms
 pub record SpellsValue (f : Fraction) (token : Bytes) : Type 0 where
   pub written : Written
   pub writes : Writes written token
   pub not-too-wide : TooWide written → ⊥
   pub value : asFraction (lowest (quotientOf written)) ≡ f
 
--- the shape of a value, and too wide: 7
+-- nothing, since it has the shape of a value and is too wide: 7
 pub record SpellsTooWide (token : Bytes) : Type 0 where
   pub written : Written
   pub writes : Writes written token
   pub too-wide : TooWide written
 
--- "Anything else is 4"
+-- "Anything else is 4", however wide: `1/0` with 30 digits before the slash is. So are the empty token and bytes that are no
+-- token, as `1 2`
 abbrev pub Misspelled : Bytes → Type 0
 Misspelled token = (w : Written) → Writes w token → ⊥

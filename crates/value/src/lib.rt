@@ -7,14 +7,14 @@ ghost use Prim.Native.Nat.{_+_, _^_, _≤_, _<_};
 ghost use lib.ListN.{drop};
 ghost use Rattle.integers.specs.Gcd.{gcd as gcdOf};
 ghost use Rattle.integers.specs.Signs.{withSign};
-ghost use Rattle.text.specs.Bytes.{Bytes, isDigit, leading};
+ghost use Rattle.text.specs.Bytes.{isDigit, leading};
 ghost use Rattle.fraction.specs.Fraction.{limit};
 ghost use Rattle.fraction.specs.Quotient.{lowest};
 ghost use Rattle.fraction.specs.Parts.{over};
 ghost use Rattle.value.specs.Spelling.{nothing, isZero};
-ghost use Rattle.value.specs.Reading.{unsignedForm, withTail, tailOf, narrowed, outcomeOf};
+ghost use Rattle.value.specs.Reading.{tailOf, unsignedForm, narrowed, outcomeOf};
 ghost use Rattle.value.specs.Promise.{ValueRead, valueSays, powerOfTen};
-ghost use Rattle.value.specs.Runs.{room, Sound, Appended, Longer, RunRead, WholeRead, Stands, Ended};
+ghost use Rattle.value.specs.Runs.{room, Bounded, Appended, Longer, RunRead, WholeRead, Ended, WithTail};
 use fraction::Fraction;
 
 // The largest magnitude of a numerator or a denominator, and the most digits that may count.
@@ -33,7 +33,7 @@ pub enum ValueAnswer {
 pub fn power_of_ten(k: usize) -> u64
     ensures { λ r. ⌜ r ≡ powerOfTen k ⌝ }
 {
-    if k > MOST_DIGITS {
+    if k > 18 {
         return 0;
     }
     let mut p: u64 = 1;
@@ -54,8 +54,8 @@ fn is_digit(b: u8) -> bool
     b <= 57
 }
 
-// Digits as they are read one by one. Zeros are held back until another digit follows: those at the end of a decimal part
-// never count. Where more than 18 digits count, the number is 0.
+// Digits, as they are read one by one: the number that they spell, how many of them count, and the zeros after these, which
+// count once another digit follows. Where more than 18 count, the number is 0.
 struct Digits {
     number: u64,
     count: usize,
@@ -73,7 +73,7 @@ impl Digits {
         }
     }
 
-    // So many more digits that count, which spell `last`.
+    // The digits with so many more that count, which spell `last`.
     fn appended(self, places: usize, last: u64) -> Digits
         requires { ⌜ (self .count + places ≤ room) × (self .number < 10 ^ self .count) × (last < 10 ^ places) ⌝ }
         ensures { λ r. ⌜ Appended self places last r ⌝ }
@@ -93,7 +93,7 @@ impl Digits {
         }
     }
 
-    // One digit more.
+    // The digits with one more. A zero is held back.
     fn with(self, digit: u64) -> Digits
         requires { ⌜ (self .count + self .zeros < room) × (self .number < 10 ^ self .count) × (digit ≤ 9) ⌝ }
         ensures { λ r. ⌜ Longer self digit r ⌝ }
@@ -115,9 +115,9 @@ struct Run {
     next: usize,
 }
 
-// The digits from a place on, after those of `start`.
+// The run of digits from a place on, read after those of `start`.
 fn read_run(token: &[u8], from: usize, start: Digits) -> Run
-    requires { ⌜ Sound from start × (start .zeros ≡ 0) ⌝ }
+    requires { ⌜ Bounded from start × (start .zeros ≡ 0) ⌝ }
     ensures { λ r. ⌜ RunRead (drop from (now (token .entry))) from start r ⌝ }
 {
     let mut digits = start;
@@ -149,7 +149,7 @@ fn skip_zeros(token: &[u8], from: usize) -> usize
     at
 }
 
-// The digits of a whole part from a place on. Leading zeros do not count; those at the end do.
+// The run of digits from a place on, as a whole part: leading zeros do not count, those at its end do.
 fn read_whole(token: &[u8], from: usize) -> Run
     ensures { λ r. ⌜ WholeRead (drop from (now (token .entry))) from r ⌝ }
 {
@@ -162,13 +162,13 @@ fn read_whole(token: &[u8], from: usize) -> Run
     }
 }
 
-// The digits of a part that runs to the end of its token; or it is no digits, or not only digits.
+// The digits of a part that runs to the end of its token, or its refusal: it has no digit, or another byte.
 enum Part {
     Digits(Digits),
     NotDigits,
 }
 
-// The run that starts at a place, if it has a digit and runs to the token's end.
+// The run from a place on, if it has a digit and ends where the token does.
 fn ended(token: &[u8], from: usize, run: Run) -> Part
     requires { ⌜ run .next ≡ from + leading isDigit (drop from (now token)) ⌝ }
     ensures { λ r. ⌜ Ended (drop from (now (token .entry))) (run .digits) r ⌝ }
@@ -207,7 +207,7 @@ fn signed(negative: bool, m: u64) -> i32
     if negative { 0 - p } else { p }
 }
 
-// A quotient in lowest terms, if it is within the limit.
+// A quotient that is in lowest terms already, if it is within the limit.
 fn narrow(negative: bool, n: u64, d: u64) -> ValueAnswer
     ensures { λ r. ⌜ valueSays r ≡ narrowed (over (withSign negative n) d) ⌝ }
 {
@@ -223,7 +223,7 @@ fn narrow(negative: bool, n: u64, d: u64) -> ValueAnswer
     })
 }
 
-// The same of any quotient, brought to lowest terms.
+// Any quotient: it is brought to lowest terms first.
 fn reduce(negative: bool, p: u64, q: u64) -> ValueAnswer
     requires { ⌜ 0 < q ⌝ }
     ensures { λ r. ⌜ valueSays r ≡ narrowed (lowest (over (withSign negative p) q)) ⌝ }
@@ -234,7 +234,7 @@ fn reduce(negative: bool, p: u64, q: u64) -> ValueAnswer
 
 // A whole number. It is in lowest terms as it stands.
 fn whole_value(negative: bool, whole: Digits) -> ValueAnswer
-    ensures { λ r. ⌜ ((w : Bytes) → Stands w whole → valueSays r ≡ outcomeOf (withTail negative w (some nothing))) ⌝ }
+    ensures { λ r. ⌜ WithTail negative whole (some nothing) (valueSays r) ⌝ }
 {
     if whole.count > MOST_DIGITS {
         return ValueAnswer::TooWide;
@@ -242,10 +242,10 @@ fn whole_value(negative: bool, whole: Digits) -> ValueAnswer
     narrow(negative, whole.number, 1)
 }
 
-// A decimal whose point stands before the place.
+// A decimal: `whole` before the point, and the digits from a place on after it.
 fn decimal_value(negative: bool, whole: Digits, token: &[u8], from: usize) -> ValueAnswer
-    requires { ⌜ Sound from whole × (whole .zeros ≡ 0) ⌝ }
-    ensures { λ r. ⌜ ((w : Bytes) → Stands w whole → valueSays r ≡ outcomeOf (withTail negative w (tailOf (46 ∷ drop from (now (token .entry)))))) ⌝ }
+    requires { ⌜ Bounded from whole × (whole .zeros ≡ 0) ⌝ }
+    ensures { λ r. ⌜ WithTail negative whole (tailOf (46 ∷ drop from (now (token .entry)))) (valueSays r) ⌝ }
 {
     let Part::Digits(d) = ended(token, from, read_run(token, from, whole)) else {
         return ValueAnswer::NotAValue;
@@ -260,9 +260,9 @@ fn decimal_value(negative: bool, whole: Digits, token: &[u8], from: usize) -> Va
     )
 }
 
-// A numerator over the denominator at the place.
+// A quotient: the numerator `whole`, and the denominator from a place on. Its digits are not all zero.
 fn quotient_value(negative: bool, whole: Digits, token: &[u8], from: usize) -> ValueAnswer
-    ensures { λ r. ⌜ ((w : Bytes) → Stands w whole → valueSays r ≡ outcomeOf (withTail negative w (tailOf (47 ∷ drop from (now (token .entry)))))) ⌝ }
+    ensures { λ r. ⌜ WithTail negative whole (tailOf (47 ∷ drop from (now (token .entry)))) (valueSays r) ⌝ }
 {
     let Part::Digits(d) = ended(token, from, read_whole(token, from)) else {
         return ValueAnswer::NotAValue;
@@ -279,7 +279,7 @@ fn quotient_value(negative: bool, whole: Digits, token: &[u8], from: usize) -> V
     reduce(negative, whole.number, d.number)
 }
 
-// What follows the optional minus.
+// The value that stands after the optional minus.
 fn read_unsigned(negative: bool, token: &[u8], from: usize) -> ValueAnswer
     ensures { λ r. ⌜ valueSays r ≡ outcomeOf (unsignedForm negative (drop from (now (token .entry)))) ⌝ }
 {
@@ -302,7 +302,7 @@ fn read_unsigned(negative: bool, token: &[u8], from: usize) -> ValueAnswer
     ValueAnswer::NotAValue
 }
 
-// Read one value.
+// Read one value: the fraction that a token spells, or the refusal of that token.
 pub fn read_value(token: &[u8]) -> ValueAnswer
     ensures { λ r. ⌜ ValueRead (now (token .entry)) (valueSays r) ⌝ }
 {

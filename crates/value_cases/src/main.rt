@@ -1,9 +1,7 @@
-// Runs Read one value on the lines of standard input, on tokens that no line can hold and on long ones, and the arithmetic
-// on 01's cases of it. Writes a line for each: the token or its description, then the fraction or the refusal.
+// Runs Read one value on the lines of standard input, on tokens that no line can hold and on long ones. Writes a line for
+// each: the token or its description, then the fraction or the refusal.
 ghost use Prim.Native.Nat.{_≤_};
-use fraction::Arithmetic;
 use fraction::Fraction;
-use fraction::Rounding;
 use value::ValueAnswer;
 
 fn put(bytes: &[u8]) {
@@ -111,42 +109,6 @@ fn long_quotient() {
     case(b"1, a slash, 2, 3,997 zeros, then a slash", &t);
 }
 
-fn rounded(a: Rounding) {
-    match a {
-        Rounding::Whole(n) => {
-            put(b" is ");
-            number(n);
-            put(b"\n");
-        }
-        Rounding::NotAFraction => put(b" refused 4\n"),
-    }
-}
-
-fn multiplied(a: Arithmetic) {
-    match a {
-        Arithmetic::Value(f) => taken(f),
-        Arithmetic::NotAFraction => put(b" refused 4\n"),
-        Arithmetic::TooWide => put(b" refused 12\n"),
-    }
-}
-
-fn of(num: i32, den: i32) -> Fraction {
-    Fraction { num, den }
-}
-
-fn arithmetic() {
-    put(b"floor(-1/2)");
-    rounded(fraction::floor(of(-1, 2)));
-    put(b"ceiling(-1/2)");
-    rounded(fraction::ceiling(of(-1, 2)));
-    put(b"floor(-3)");
-    rounded(fraction::floor(of(-3, 1)));
-    put(b"1/65536 times 1/32767");
-    multiplied(fraction::product(of(1, 65536), of(1, 32767)));
-    put(b"1/65536 times 1/32768");
-    multiplied(fraction::product(of(1, 65536), of(1, 32768)));
-}
-
 fn main() {
     let mut input = io::large_buffer();
     let n = io::read_full(0, &mut input);
@@ -155,5 +117,4 @@ fn main() {
     long_whole();
     long_decimal();
     long_quotient();
-    arithmetic();
 }

@@ -1,6 +1,5 @@
 -- `value::is_digit` meets its contract: the two tests of `isDigit`.
 -- Assumes nothing.
-use borrow.Author.Needs.{needs}
 use borrow.Author.Tests.{lt-leb, le-leb}
 use Rattle.text.specs.Bytes.{isDigit}
 use Rattle.value.proofs.is_digit.Statement.{statement}

@@ -2,8 +2,6 @@
 -- Assumes nothing.
 use borrow.Author.Needs.{needs}
 use mathlib.Core.Path.{sym}
-use mathlib.Core.Bool.{false}
-use native.Mathlib.Omega.{arith}
 use Rattle.integers.proofs.Casts.{back-of}
 use Rattle.value.proofs.Widths.{narrow-num, narrow-den, narrow-fits}
 use Rattle.value.proofs.narrow.Statement.{statement}

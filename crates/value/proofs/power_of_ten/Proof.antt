@@ -2,7 +2,7 @@
 -- is what is left of k.
 -- Assumes nothing.
 use mathlib.Core.Path.{_≡_, refl, sym, _∙_, ap}
-use Prim.Native.Nat.{ℕ, _+_, _*_, _-_, _^_, _≤_, _<_}
+use Prim.Native.Nat.{ℕ, _+_, _-_, _^_, _≤_}
 use native.Mathlib.Omega.{arith}
 use Rattle.value.proofs.Powers.{ten-next, ten-fits, power-within, power-beyond}
 use Rattle.value.proofs.power_of_ten.Statement.{statement}
@@ -15,7 +15,7 @@ abbrev μ-loop : tie.MeasureT-loop
 μ-loop k p₀ i₀ p i = k - i
 
 returns : tie.Need-returns Inv-loop μ-loop
-returns c = sym (power-beyond _ (c .if1 .taken))
+returns c = sym (power-beyond (c .before .args .k) (omega arith))
 
 loop-holds : tie.Need-loop-holds Inv-loop μ-loop
 loop-holds c = (omega arith, refl)

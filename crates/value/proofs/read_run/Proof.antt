@@ -3,8 +3,8 @@
 -- Assumes nothing.
 use borrow.Author.Needs.{needs}
 use mathlib.Core.Path.{_≡_, sym, _∙_}
-use mathlib.Core.Bool.{true, false}
-use Prim.Native.Nat.{_-_, _≤_}
+use mathlib.Core.Bool.{true}
+use Prim.Native.Nat.{_-_}
 use native.Mathlib.Omega.{arith}
 use lib.ListN.{length, getD}
 use Rattle.text.specs.Bytes.{isDigit}
@@ -43,7 +43,7 @@ cast-with c = omega (arith, digit-bounds _ (is-digit c) .1)
 
 with-requires : tie.Need-with-requires Inv-loop μ-loop
 with-requires c κs =
-    let h = at-loop c .loop .inv .sound in
+    let h = at-loop c .loop .inv .bounded in
     (omega (arith, h .short), h .small, omega (arith, digit-bounds _ (is-digit c) .1))
 
 add-at : tie.Need-add-at Inv-loop μ-loop

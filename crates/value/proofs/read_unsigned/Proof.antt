@@ -1,7 +1,7 @@
 -- `value::read_unsigned` meets its contract, by where the first digits end and the byte that stands there.
 -- Assumes nothing.
 use borrow.Author.Needs.{needs}
-use mathlib.Core.Path.{_≡_, _∙_, sym, ap}
+use mathlib.Core.Path.{_∙_, sym, ap}
 use native.Mathlib.Omega.{arith}
 use Rattle.value.specs.Reading.{outcomeOf}
 use Rattle.value.proofs.Tokens.{no-digits, no-tail, tail-from, wrong-tail}
@@ -37,7 +37,7 @@ add-decimal-value c = omega arith
 decimal-value-requires : tie.Need-decimal-value-requires
 decimal-value-requires c κs =
     let h = c .before .before .before .before .before .read-whole .ensures in
-    (record { short = omega (arith, h .sound .short); small = h .sound .small }, h .stands .none-left)
+    (record { short = omega (arith, h .bounded .short); small = h .bounded .small }, h .stands .none-left)
 
 returns-3 : tie.Need-returns-3
 returns-3 c =

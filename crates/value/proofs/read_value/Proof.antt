@@ -2,7 +2,6 @@
 -- Assumes nothing.
 use borrow.Author.Needs.{needs}
 use mathlib.Core.Path.{_≡_, _∙_, sym, subst}
-use native.Mathlib.Omega.{arith}
 use Rattle.text.specs.Bytes.{Bytes}
 use Rattle.fraction.specs.Outcome.{Outcome}
 use Rattle.fraction.specs.declared.Fraction.{Fraction}

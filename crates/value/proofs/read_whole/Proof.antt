@@ -24,7 +24,7 @@ appended-requires c κs =
     let a = at-skip .before .before .args in
     let n = c .before .before .none .ensures in
     let short = whole-short (a .token .now) (a .from) _ (at-skip .skip-zeros .ensures) _ (n .1) (n .0) _ (c .before .read-run .ensures) in
-    (omega arith, c .before .read-run .ensures .sound .small, ten-positive _)
+    (omega arith, c .before .read-run .ensures .bounded .small, ten-positive _)
 
 returns : tie.Need-returns
 returns c =
