@@ -8,34 +8,34 @@ use mathlib.Core.Option.{Option, none, some}
 use Prim.Native.Nat.{ℕ, zero, suc, _<_}
 use native.Mathlib.Omega.{arith}
 use borrow.Author.Tests.{ltb-true, lt-ltb}
-use lib.Dec.{T, ltb, eqb}
+use lib.Dec.{ltb, eqb}
 use lib.ListN.{length}
-use Rattle.text.specs.Bytes.{Bytes, same, isNumeral, numberOf}
+use Rattle.text.specs.Bytes.{same, isNumeral, numberOf}
 use Rattle.text.specs.BytesLaws.{same-true, same-refl}
 use Rattle.text.specs.Tokens.{Token, Stream, end, token, join}
 use Rattle.fraction.specs.Outcome.{Outcome, gives, refuses}
-use Rattle.value.specs.Reading.{readValue}
 use Rattle.value.specs.Agreement.{value-read}
-use Rattle.grammar.specs.Format.{Word, Or, instead, given, Symbol, word, placed, choice, number, name, rowName, value, or, Format, symbol, then, items, nothing, view}
-use Rattle.grammar.specs.Spelling.{isAmong, meaningOf, isName, NumberSpelled, OrSpelled, SymbolSpelled, ItemsSpelled, Spells}
+use Rattle.grammar.specs.Format.{Or, instead, given, Symbol, word, placed, choice, number, name, rowName, value, or, Format, symbol, then, items, nothing, view}
+use Rattle.grammar.specs.Spelling.{isAmong, meaningOf, isName, OrSpelled, SymbolSpelled, ItemsSpelled, Spells}
 use Rattle.grammar.specs.Reading.{unless, chosen, orElse, decode, Read, got, stopped, onward, kept, readSymbol, readItems, read}
 
 -- ---- one token
 
-no : {A : Type 0} → _≡_ {A = ℕ} 0 1 → A
-no z = absurd (omega arith)
+-- from two constructors that are equal, by `cc`
+pub impossible : {A : Type 0} → _≡_ {A = ℕ} 0 1 → A
+impossible z = absurd (omega arith)
 
 -- what a test that was passed says
 unless-gives : {A : Type 0} (r : ℕ) (b : Bool) (o : Outcome A) (a : A) → unless r b o ≡ gives a → (b ≡ true) × (o ≡ gives a)
 unless-gives r true o a e = (refl, e)
-unless-gives r false o a e = no (cc)
+unless-gives r false o a e = impossible (cc)
 
 not-true : (b : Bool) → not b ≡ true → b ≡ false
 not-true true e = sym e
 not-true false e = refl
 
 chosen-gives : {A : Type 0} (out : A → Bool) (m : Option A) (a : A) → chosen out m ≡ gives a → (m ≡ some a) × (out a ≡ false)
-chosen-gives out none a e = no (cc)
+chosen-gives out none a e = impossible (cc)
 chosen-gives out (some b) a e =
     let h = unless-gives 5 (not (out b)) (gives b) a e in
     let p : b ≡ a = cc (h .1) in
@@ -78,10 +78,10 @@ decode-sound (or {A = A} w cell s) t x e = either (λ a p. decode-sound s t a p)
     either : ((a : A) → decode s t ≡ gives a → SymbolSpelled s a t) → (b : Bool) → same (t .bytes) w ≡ b → (o : Outcome A) → decode s t ≡ o
         → (y : Or A) → orElse b o ≡ gives y → OrSpelled w (λ a. SymbolSpelled s a t) y (t .bytes)
     either ih true p o q instead r = same-true (t .bytes) w p
-    either ih true p o q (given a) r = no (cc)
-    either ih false p (gives a) q instead r = no (cc)
+    either ih true p o q (given a) r = impossible (cc)
+    either ih false p (gives a) q instead r = impossible (cc)
     either ih false p (gives a) q (given b) r = let eq : a ≡ b = cc in (p, ih b (q ∙ ap gives eq))
-    either ih false p (refuses k) q y r = no (cc)
+    either ih false p (refuses k) q y r = impossible (cc)
 
 decode-complete : {A : Type 0} (s : Symbol A) (t : Token) (a : A) → SymbolSpelled s a t → decode s t ≡ gives a
 decode-complete (word w) t u h = rw (h, same-refl w)
@@ -99,7 +99,7 @@ decode-complete (or w cell s) t (given a) h = rw (h .0, decode-complete s t a (h
 onward-got : {A B : Type 0} (r : Read A) (k : A → Stream → Read B) (b : B) (w : Stream) → onward r k ≡ got b w
     → (a : A) × (v : Stream) × (r ≡ got a v) × (k a v ≡ got b w)
 onward-got (got a v) k b w e = (a, v, refl, e)
-onward-got (stopped r p) k b w e = no (cc)
+onward-got (stopped r p) k b w e = impossible (cc)
 
 pub join-append : (a b : List Token) (s : Stream) → join (a ++ b) s ≡ join a (join b s)
 join-append [] b s = refl
@@ -111,7 +111,7 @@ joined s u a b w o p q r = p ∙ ap (join a) (q ∙ ap (join b) r) ∙ sym (join
 
 symbol-sound : {A : Type 0} (y : Symbol A) (s : Stream) (a : A) (o : Stream) → readSymbol y s ≡ got a o
     → (t : Token) × (s ≡ join (t ∷ []) o) × SymbolSpelled y a t
-symbol-sound y (end size) a o e = no (cc)
+symbol-sound y (end size) a o e = impossible (cc)
 symbol-sound {A} y (token p w s) a o e = go (decode y t) refl e
   where
     t : Token
@@ -122,7 +122,7 @@ symbol-sound {A} y (token p w s) a o e = go (decode y t) refl e
         let eq : b ≡ a = cc in
         let left : s ≡ o = cc in
         (t, ap (token p w) left, decode-sound y t a (q ∙ ap gives eq))
-    go (refuses r) q k = no (cc)
+    go (refuses r) q k = impossible (cc)
 
 items-complete : {A : Type 0} (P : List A → A → List Token → Type 0) (R : List A → Stream → Read A)
     → ((before : List A) (x : A) (us : List Token) (o : Stream) → P before x us → R before (join us o) ≡ got x o)
@@ -181,7 +181,7 @@ sound (then f g) s ab o e =
     let q : i .1 ≡ o = cc (i .3) in (
       first .0 ++ second .0,
       joined s (h .1) (first .0) (second .0) (i .1) o (first .1) (second .1) q,
-      subst (λ x. Spells (then f g) x (first .0 ++ second .0)) p (first .0, second .0, refl, first .2, second .2),
+      subst (λ x. Spells (then f g) x (first .0 ++ second .0)) p (first .0, second .0, refl {a = first .0 ++ second .0}, first .2, second .2),
     )
 sound (items n g) s xs o e =
     let r = items-sound (λ before x vs. Spells (g before) x vs) (λ before v. read (g before) v) (λ before v x w p. sound (g before) v x w p) n [] s xs o e in

@@ -4,7 +4,7 @@
 use mathlib.Core.Path.{_≡_, refl, ap, ap₂}
 use mathlib.Core.Bool.{Bool, true, false, cond, _&&_}
 use mathlib.Core.List.{List, [], _∷_, _++_, map}
-use Prim.Native.Nat.{ℕ, zero, suc, _+_, _-_}
+use Prim.Native.Nat.{ℕ, suc, _+_, _-_}
 use lib.Dec.{leb}
 use lib.ListN.{length}
 use Rattle.text.specs.Bytes.{Bytes}
@@ -12,7 +12,7 @@ use Rattle.text.specs.Tokens.{Token}
 use Rattle.text.specs.Words as W
 use Rattle.fraction.specs.declared.Fraction.{Fraction}
 use Rattle.grammar.specs.Tree.{Variables, Integers, Term, TermList, Direction, minimize, maximize, Objective, Sense, equal, atMost, atLeast, Side, obj, listed, Row, Constraints, End, infinite, finite, Claim, infeas, range, Relation, Solution, Solutions, Multiplier, MultiplierList, Unsplit, Reason, asm, lin, rnd, uns, sol, Last, never, index, Derivation, Derivations, Tree}
-use Rattle.grammar.specs.Format.{Word, Or, instead, given, Symbol, word, placed, choice, number, name, rowName, value, or, Format, symbol, then, items, nothing, view}
+use Rattle.grammar.specs.Format.{Word, Or, instead, given, word, placed, choice, number, name, rowName, value, or, Format, symbol, then, items, nothing, view}
 
 -- ---- common parts
 

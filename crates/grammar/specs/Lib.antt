@@ -8,4 +8,10 @@ pub mod Agreement
 pub mod Layout
 pub mod Texts
 pub mod Tables
+pub mod Example
 pub mod Worked
+pub mod Contents
+pub mod Names
+pub mod Ranges
+pub mod Fits
+pub mod Rows

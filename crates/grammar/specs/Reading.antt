@@ -1,17 +1,16 @@
 -- Reading tokens by a format, "token by token, each tested 3, 4, 5, 6, 7": what was kept and the tokens left, or the first
 -- refusal, by 01's number and the place of its token, or of the end (document 01, "Reasons of refusal").
 -- Assumes nothing.
-use mathlib.Core.Path.{_≡_}
 use mathlib.Core.Bool.{Bool, true, false, not}
 use mathlib.Core.List.{List, [], _∷_, _++_}
 use mathlib.Core.Option.{Option, none, some}
 use Prim.Native.Nat.{ℕ, zero, suc}
 use lib.Dec.{ltb, eqb}
-use Rattle.text.specs.Bytes.{Bytes, same, isNumeral, numberOf}
+use Rattle.text.specs.Bytes.{same, isNumeral, numberOf}
 use Rattle.text.specs.Tokens.{Token, Stream, end, token}
 use Rattle.fraction.specs.Outcome.{Outcome, gives, refuses}
 use Rattle.value.specs.Reading.{readValue}
-use Rattle.grammar.specs.Format.{Word, Or, instead, given, Symbol, word, placed, choice, number, name, rowName, value, or, Format, symbol, then, items, nothing, view}
+use Rattle.grammar.specs.Format.{Or, instead, given, Symbol, word, placed, choice, number, name, rowName, value, or, Format, symbol, then, items, nothing, view}
 use Rattle.grammar.specs.Spelling.{isAmong, meaningOf, isName}
 
 -- ---- one token

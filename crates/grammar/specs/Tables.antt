@@ -1,7 +1,6 @@
 -- What stands in the tables after a reading (document 01, "Tables lent by the caller"), for tables of any size that has the
 -- cells needed: "After a reading every cell not named here is 0, also in cells beyond those needed".
 -- Assumes nothing.
-use mathlib.Core.Path.{_≡_}
 use mathlib.Core.List.{List, [], _∷_, _++_}
 use Prim.Native.Nat.{ℕ, _-_, _*_}
 use lib.IntN.{ℤ, pos}

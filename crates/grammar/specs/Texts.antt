@@ -1,10 +1,9 @@
 -- What a text spells, what reading it gives, and that these agree (document 01, "Spelling" and "Reasons of refusal").
 -- Assumes nothing.
-use mathlib.Core.Path.{_≡_, refl, sym, _∙_, ap, subst}
+use mathlib.Core.Path.{_≡_, sym, _∙_, ap, subst}
 use mathlib.Core.Logic.{_↔_}
-use mathlib.Core.List.{List, [], _∷_}
+use mathlib.Core.List.{List}
 use Prim.Native.Nat.{ℕ}
-use native.Mathlib.Omega.{arith}
 use lib.ListN.{length}
 use Rattle.text.specs.Bytes.{Bytes}
 use Rattle.text.specs.Comments.{commentsEnd}
@@ -15,7 +14,7 @@ use Rattle.grammar.specs.Tree.{Tree}
 use Rattle.grammar.specs.Spelling.{Spells}
 use Rattle.grammar.specs.Certificate.{certificate}
 use Rattle.grammar.specs.Reading.{Read, got, stopped, read}
-use Rattle.grammar.specs.Agreement.{sound, complete, once}
+use Rattle.grammar.specs.Agreement.{impossible, sound, complete}
 use Rattle.grammar.specs.Layout.{cells, values, names}
 
 -- ---- what a text spells
@@ -63,23 +62,10 @@ readOf text = toTheEnd (read certificate (rest text (commentsEnd text)))
 
 -- ---- both agree
 
--- the number that a stream ends in
-sizeOf : Stream → ℕ
-sizeOf (end size) = size
-sizeOf (token place bytes s) = sizeOf s
-
-size-join : (ts : List Token) (s : Stream) → sizeOf (join ts s) ≡ sizeOf s
-unfolding sizeOf
-size-join [] s = refl
-size-join (t ∷ ts) s = size-join ts s
-
-no : {A : Type 0} → _≡_ {A = ℕ} 0 1 → A
-no z = absurd (omega arith)
-
 to-the-end : (r : Read Tree) (tree : Tree) → toTheEnd r ≡ taken tree → (size : ℕ) × (r ≡ got tree (end size))
 to-the-end (got t (end size)) tree e = (size, (let p : t ≡ tree = cc in ap (λ (x : Tree). got x (end size)) p))
-to-the-end (got t (token place bytes s)) tree e = no (cc)
-to-the-end (stopped r p) tree e = no (cc)
+to-the-end (got t (token place bytes s)) tree e = impossible (cc)
+to-the-end (stopped r p) tree e = impossible (cc)
 
 module _ (text : Bytes) where
   abbrev whole : Stream
