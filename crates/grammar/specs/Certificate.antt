@@ -1,5 +1,5 @@
--- The grammar of a certificate, VIPR 1.0 as document 01 restates it ("Spelling"): one format for each thing that 01 names, in
--- 01's order, with the record or the cases that are kept of it.
+-- The grammar of a certificate, VIPR 1.0 as document 01 restates it ("Spelling"): one format for each thing that 01 names, with
+-- the record or the cases that are kept of it; first the parts, then the sections in 01's order.
 -- Assumes nothing.
 use mathlib.Core.Path.{_≡_, refl, ap, ap₂}
 use mathlib.Core.Bool.{Bool, true, false, cond, _&&_}
@@ -63,7 +63,7 @@ abbrev pub pairList : ℕ → Format ((k : ℕ) × List Pair)
 pairList bound = then (countTo bound) (λ k. items k (pair bound))
 
 -- "A term list is a count and that many pairs of variable index and value", over n variables: "terms 0 to n"; "A variable's
--- index is below n"
+-- index is below n"; "Zero coefficients are allowed"
 abbrev pub asTerm : Pair → Term
 asTerm p = record { variable = p .index; coefficient = p .value }
 

@@ -137,7 +137,7 @@ treeValues t =
     ++ (solutionsValues (t .solutions)
     ++ derivationsValues (t .derivations))))
 
--- so many numbers from this one on
+-- as many numbers as the list has elements, from this one on
 abbrev pub upFrom : ℕ → {A : Type 0} → List A → List ℕ
 upFrom n [] = []
 upFrom n (x ∷ xs) = n ∷ upFrom (n + 1) xs
@@ -360,8 +360,8 @@ ends-lay : (w : ClaimWord) → Lays (ends w) (endsCells w) (endsValues w) (λ u.
 ends-lay infeasWord = nothing-lays
 ends-lay rangeWord = then-lays (end-lays _) (λ lower. end-lays _)
 
-relation-lays : Lays relation (λ r. claimCells (r .claim)) (λ r. claimValues (r .claim)) (λ r. [])
-relation-lays =
+pub relation-lay : Lays relation (λ r. claimCells (r .claim)) (λ r. claimValues (r .claim)) (λ r. [])
+relation-lay =
     lays-as (λ r. claim-cells (r .claim)) (λ r. claim-values (r .claim)) (λ r. refl)
     (view-lays (then-lays (symbol-lays (placed _)) (λ p. view-lays (then-lays (symbol-lays (choice _ _ _)) (λ w. ends-lay w)))))
   where
@@ -381,29 +381,29 @@ all-one : {X : Type 0} (xs : List X) → ofAll (λ x. x ∷ []) xs ≡ xs
 all-one [] = refl
 all-one (x ∷ xs) = ap (λ (l : List _). x ∷ l) (all-one xs)
 
-variables-lay : Lays variables (λ v. v .count ∷ []) (λ v. []) (λ v. [])
+pub variables-lay : Lays variables (λ v. v .count ∷ []) (λ v. []) (λ v. [])
 variables-lay =
     section-lays _
     (lays-as (λ v. ap (λ (l : List ℕ). v .count ∷ l) (of-none (v .names))) (λ v. of-none (v .names)) (λ v. refl)
     (view-lays (then-lays (symbol-lays (number _ _)) (λ n. items-lay (λ before. symbol-lays name)))))
 
-integers-lay : (n : ℕ) → Lays (integers n) integersCells (λ i. []) (λ i. [])
+pub integers-lay : (n : ℕ) → Lays (integers n) integersCells (λ i. []) (λ i. [])
 integers-lay n =
     section-lays _
     (lays-as (λ i. ap (λ (l : List ℕ). i .count ∷ l) (all-one (i .indices))) (λ i. of-none (i .indices)) (λ i. refl)
     (view-lays (then-lays (symbol-lays (number _ _)) (λ k. items-lay (λ before. symbol-lays (number _ _))))))
 
-objective-lays : (n : ℕ) → Lays (objectiveSection n) objectiveCells (λ o. termValues (o .terms)) (λ o. [])
-objective-lays n = section-lays _ (view-lays (then-lays (symbol-lays (choice _ _ _)) (λ c. terms-lay n)))
+pub objective-lay : (n : ℕ) → Lays (objectiveSection n) objectiveCells (λ o. termValues (o .terms)) (λ o. [])
+objective-lay n = section-lays _ (view-lays (then-lays (symbol-lays (choice _ _ _)) (λ c. terms-lay n)))
 
-constraints-lay : (n : ℕ) → Lays (constraints n) constraintsCells constraintsValues (λ c. upFrom 0 (c .rows))
+pub constraints-lay : (n : ℕ) → Lays (constraints n) constraintsCells constraintsValues (λ c. upFrom 0 (c .rows))
 constraints-lay n =
     section-lays _
     (view-lays (then-lays (symbol-lays (number _ _))
     (λ m. then-lays (symbol-lays (number _ _))
     (λ b. rows-lay length (λ before x. length-append before (x ∷ [])) (λ before. row-lays n (length before) _)))))
 
-solutions-lay : (n : ℕ) → Lays (solutionSection n) solutionsCells solutionsValues (λ s. upFrom 1024 (s .solutions))
+pub solutions-lay : (n : ℕ) → Lays (solutionSection n) solutionsCells solutionsValues (λ s. upFrom 1024 (s .solutions))
 solutions-lay n =
     section-lays _
     (view-lays (then-lays (symbol-lays (number _ _))
@@ -422,14 +422,14 @@ certificate-lays =
     view-lays (then-lays (section-lays _ (symbol-lays (word _)))
     (λ u. then-lays variables-lay
     (λ v. then-lays (integers-lay (v .count))
-    (λ i. then-lays (objective-lays (v .count))
+    (λ i. then-lays (objective-lay (v .count))
     (λ o. then-lays (constraints-lay (v .count))
-    (λ c. then-lays relation-lays (λ r. then-lays (solutions-lay (v .count)) (λ s. derivations-lay (v .count) c))))))))
+    (λ c. then-lays relation-lay (λ r. then-lays (solutions-lay (v .count)) (λ s. derivations-lay (v .count) c))))))))
 
 -- ---- the whole
 
 -- the rows of the marks, for every format
-abbrev markRows : List Mark → List ℕ
+abbrev pub markRows : List Mark → List ℕ
 markRows ms = map (λ (m : Mark). m .row) ms
 
 symbol-mark-rows : {A : Type 0} (s : Symbol A) (a : A) (i v : ℕ) → markRows (symbolMarks s a i v) ≡ symbolRows s a
@@ -469,5 +469,5 @@ tree-cells tree = certificate-lays .cells-are tree
 pub tree-values : (tree : Tree) → values certificate tree ≡ treeValues tree
 tree-values tree = certificate-lays .values-are tree
 
-pub tree-rows : (tree : Tree) → map (λ (m : Mark). m .row) (marks certificate tree 0 0) ≡ treeRows tree
+pub tree-rows : (tree : Tree) → markRows (marks certificate tree 0 0) ≡ treeRows tree
 tree-rows tree = mark-rows certificate tree 0 0 ∙ certificate-lays .rows-are tree

@@ -15,6 +15,7 @@ use Rattle.text.specs.TokensLaws.{first-byte}
 use Rattle.text.specs.Words as W
 use Rattle.fraction.specs.Fraction.{IsFraction}
 use Rattle.fraction.specs.declared.Fraction.{Fraction}
+use Rattle.value.specs.Spelling.{SpellsValue}
 use Rattle.value.specs.Agreement.{value-read}
 use Rattle.grammar.specs.Tree.{Tree, Sense, Direction, Constraints, Solution}
 use Rattle.grammar.specs.Format.{Word, Or, instead, given, Symbol, word, placed, choice, number, name, rowName, value, or, Format, symbol, then, items, nothing, view}
@@ -59,24 +60,21 @@ ended-gap {at} {part} {t} {after} e f = go (f .gap) (f .cut) (t .bytes) refl (f 
         clash (first-byte b w (sym (ap (every isTokenByte) q) ∙ u))
         (sym (ap (λ (x : Bytes). isEnded (x ++ after)) q) ∙ sym (ap isEnded cut) ∙ e)
 
+first-size : {at : ℕ} {part : Bytes} {t : Token} {after : Bytes} → (f : FirstToken at part t after) → length part ≡ length (f .gap) + (length (t .bytes) + length after)
+first-size {t = t} {after = after} f =
+    ap length (f .cut) ∙ length-append (f .gap) (t .bytes ++ after) ∙ ap (λ (n : ℕ). length (f .gap) + n) (length-append (t .bytes) after)
+
 tokens-ended : (at : ℕ) (part : Bytes) (ts : List Token) → isEnded part ≡ true → HasTokens at part ts → 2 * length ts ≤ length part
 tokens-ended at part [] e h = omega arith
 tokens-ended at part (t ∷ ts) e h =
-    let f = h .1 in
-    let gap = ended-gap e f in
-    let more = tokens-ended (t .place + length (t .bytes)) (h .0) ts (f .ended) (h .2) in
-    let size : length part ≡ length (f .gap) + (length (t .bytes) + length (h .0)) =
-    ap length (f .cut) ∙ length-append (f .gap) (t .bytes ++ h .0) ∙ ap (λ (n : ℕ). length (f .gap) + n) (length-append (t .bytes) (h .0)) in
-    omega (arith, f .not-empty)
+    let more = tokens-ended (t .place + length (t .bytes)) (h .0) ts (h .1 .ended) (h .2) in
+    omega (arith, first-size (h .1), ended-gap e (h .1), h .1 .not-empty)
 
 tokens-few : (at : ℕ) (part : Bytes) (ts : List Token) → HasTokens at part ts → 2 * length ts ≤ length part + 1
 tokens-few at part [] h = omega arith
 tokens-few at part (t ∷ ts) h =
-    let f = h .1 in
-    let more = tokens-ended (t .place + length (t .bytes)) (h .0) ts (f .ended) (h .2) in
-    let size : length part ≡ length (f .gap) + (length (t .bytes) + length (h .0)) =
-    ap length (f .cut) ∙ length-append (f .gap) (t .bytes ++ h .0) ∙ ap (λ (n : ℕ). length (f .gap) + n) (length-append (t .bytes) (h .0)) in
-    omega (arith, f .not-empty)
+    let more = tokens-ended (t .place + length (t .bytes)) (h .0) ts (h .1 .ended) (h .2) in
+    omega (arith, first-size (h .1), h .1 .not-empty)
 
 pub text-tokens-few : {text : Bytes} {ts : List Token} → TextHasTokens text ts → 2 * length ts ≤ length text + 1
 text-tokens-few {text} {ts} h =
@@ -86,6 +84,9 @@ text-tokens-few {text} {ts} h =
 
 -- ---- values, for every format: each is in lowest terms within the limit
 
+spelled-fraction : (f : Fraction) (w : Bytes) → SpellsValue f w → IsFraction f
+spelled-fraction f w s = value-read w .spells-exactly f s .0
+
 symbol-values : {A : Type 0} (s : Symbol A) (a : A) (t : Token) → SymbolSpelled s a t → Each IsFraction (symbolValues s a)
 symbol-values (word w) a t h = each-none
 symbol-values (placed w) a t h = each-none
@@ -93,8 +94,7 @@ symbol-values (choice cell words out) a t h = each-none
 symbol-values (number bound used) a t h = each-none
 symbol-values name a t h = each-none
 symbol-values (rowName row used) a t h = each-none
-symbol-values (value cells) f t h =
-    each-one (value-read (t .bytes) .spells-exactly f h .0)
+symbol-values (value cells) f t h = each-one (spelled-fraction f (t .bytes) h)
 symbol-values (or w cell s) instead t h = each-none
 symbol-values (or w cell s) (given a) t h = symbol-values s a t (h .1)
 
@@ -113,22 +113,23 @@ values-are (items n g) xs ts h =
 values-are nothing a ts h = each-none
 values-are (view to from p q f) b ts h = values-are f (from b) ts h
 
--- ---- cells, values and rows, format by format
+-- ---- cells and values, format by format
 
--- what these tokens take of the tables, cells and values: at most a cell for each token, and a value for two tokens. That is
--- said so: twice the values, and so many tokens to spare, are at most the tokens, and so many that are owed
-record Takes (spare owed : ℕ) (ts : List Token) (cs : List ℕ) (vs : List Fraction) : Type 0 where
+-- what these tokens take of the tables, cells and values: at most one cell for each token, and one value for each two tokens.
+-- Where a part of the grammar has more tokens for its values than that, they are extra, and where it has fewer, some are
+-- missing: twice the values, and what is extra, are at most the tokens, and what is missing
+record Takes (extra missing : ℕ) (ts : List Token) (cs : List ℕ) (vs : List Fraction) : Type 0 where
   cells-few : length cs ≤ length ts
-  values-few : 2 * length vs + spare ≤ length ts + owed
+  values-few : 2 * length vs + extra ≤ length ts + missing
   cells-narrow : Each FitsU16 cs
 
 takes-none : Takes 0 0 [] [] []
 takes-none = record { cells-few = omega arith; values-few = omega arith; cells-narrow = each-none }
 
--- with less to spare, or more that is owed
-takes-as : {s o : ℕ} {ts : List Token} {cs : List ℕ} {vs : List Fraction} (spare owed : ℕ) → spare + o ≤ s + owed
-    → Takes s o ts cs vs → Takes spare owed ts cs vs
-takes-as spare owed le t =
+-- with less that is extra, or more that is missing
+takes-as : {s o : ℕ} {ts : List Token} {cs : List ℕ} {vs : List Fraction} (extra missing : ℕ) → extra + o ≤ s + missing
+    → Takes s o ts cs vs → Takes extra missing ts cs vs
+takes-as extra missing le t =
     record { cells-few = t .cells-few; values-few = omega (arith, t .values-few); cells-narrow = t .cells-narrow }
 
 -- one run of tokens, and then another
@@ -145,18 +146,18 @@ takes-both {us = us} {ws = ws} {cs = cs} {ds = ds} {vs = vs} {xs = xs} e t u =
     }
 
 -- so it is for all tokens that spell the format
-record Narrow {A : Type 0} (spare owed : ℕ) (f : Format A) : Type 0 where
-  takes : (a : A) (ts : List Token) → Spells f a ts → Takes spare owed ts (cells f a) (values f a)
+record Narrow {A : Type 0} (extra missing : ℕ) (f : Format A) : Type 0 where
+  takes : (a : A) (ts : List Token) → Spells f a ts → Takes extra missing ts (cells f a) (values f a)
 
-narrow-as : {A : Type 0} {f : Format A} {s o : ℕ} (spare owed : ℕ) → spare + o ≤ s + owed → Narrow s o f → Narrow spare owed f
-narrow-as spare owed le h = record { takes = λ a ts p. takes-as spare owed le (h .takes a ts p) }
+narrow-as : {A : Type 0} {f : Format A} {s o : ℕ} (extra missing : ℕ) → extra + o ≤ s + missing → Narrow s o f → Narrow extra missing f
+narrow-as extra missing le h = record { takes = λ a ts p. takes-as extra missing le (h .takes a ts p) }
 
 nothing-narrow : Narrow 0 0 nothing
 unfolding gather
 nothing-narrow = record { takes = λ a ts p. rw p takes-none }
 
-module _ {A B : Type 0} {to : A → B} {from : B → A} {there : (a : A) → from (to a) ≡ a} {back : (b : B) → to (from b) ≡ b} {f : Format A} {spare owed : ℕ} where
-  view-narrow : Narrow spare owed f → Narrow spare owed (view to from there back f)
+module _ {A B : Type 0} {to : A → B} {from : B → A} {there : (a : A) → from (to a) ≡ a} {back : (b : B) → to (from b) ≡ b} {f : Format A} {extra missing : ℕ} where
+  view-narrow : Narrow extra missing f → Narrow extra missing (view to from there back f)
   unfolding gather
   view-narrow h = record { takes = λ b ts p. h .takes (from b) ts p }
 
@@ -180,19 +181,19 @@ module _ {A : Type 0} {n : ℕ} {g : List A → Format A} (each : (before : List
 
 -- ---- one token
 
--- a value owes a token; what is no value has its token to spare
-abbrev spare : {A : Type 0} → Symbol A → ℕ
-spare (word w) = 1
-spare (placed w) = 1
-spare (choice cell words out) = 1
-spare (number bound used) = 1
-spare name = 1
-spare (rowName row used) = 1
-spare (value cells) = 0
-spare (or w cell y) = spare y
+-- a value has one token, so that one is missing; another symbol has one, and no value
+abbrev extra : {A : Type 0} → Symbol A → ℕ
+extra (word w) = 1
+extra (placed w) = 1
+extra (choice cell words out) = 1
+extra (number bound used) = 1
+extra name = 1
+extra (rowName row used) = 1
+extra (value cells) = 0
+extra (or w cell y) = extra y
 
-abbrev owed : {A : Type 0} → Symbol A → ℕ
-owed y = 1 - spare y
+abbrev missing : {A : Type 0} → Symbol A → ℕ
+missing y = 1 - extra y
 
 -- the cells of a symbol are one at most, and it fits u16
 abbrev SymbolFits : {A : Type 0} → Symbol A → Type 0
@@ -205,22 +206,22 @@ SymbolFits (rowName row used) = Unit {0}
 SymbolFits (value cells) = (length cells ≤ 1) × Each FitsU16 cells
 SymbolFits (or w cell y) = FitsU16 cell × SymbolFits y
 
-spare-most : {A : Type 0} (y : Symbol A) → spare y ≤ 1
-spare-most (word w) = omega arith
-spare-most (placed w) = omega arith
-spare-most (choice cell words out) = omega arith
-spare-most (number bound used) = omega arith
-spare-most name = omega arith
-spare-most (rowName row used) = omega arith
-spare-most (value cells) = omega arith
-spare-most (or w cell y) = spare-most y
+extra-most : {A : Type 0} (y : Symbol A) → extra y ≤ 1
+extra-most (word w) = omega arith
+extra-most (placed w) = omega arith
+extra-most (choice cell words out) = omega arith
+extra-most (number bound used) = omega arith
+extra-most name = omega arith
+extra-most (rowName row used) = omega arith
+extra-most (value cells) = omega arith
+extra-most (or w cell y) = extra-most y
 
 -- no value, at most one cell
 takes-cells : (t : Token) {cs : List ℕ} → length cs ≤ 1 → Each FitsU16 cs → Takes 1 0 (t ∷ []) cs []
 takes-cells t few each = record { cells-few = few; values-few = omega arith; cells-narrow = each }
 
 symbol-takes : {A : Type 0} (y : Symbol A) → SymbolFits y → (a : A) (t : Token) → SymbolSpelled y a t
-    → Takes (spare y) (owed y) (t ∷ []) (symbolCells y a) (symbolValues y a)
+    → Takes (extra y) (missing y) (t ∷ []) (symbolCells y a) (symbolValues y a)
 symbol-takes (word w) f a t h = takes-cells t (omega arith) each-none
 symbol-takes (placed w) f a t h = takes-cells t (omega arith) each-none
 symbol-takes (choice cell words out) f a t h = takes-cells t (omega arith) (each-one (f a))
@@ -229,10 +230,10 @@ symbol-takes name f a t h = takes-cells t (omega arith) each-none
 symbol-takes (rowName row used) f a t h = takes-cells t (omega arith) each-none
 symbol-takes (value cells) f a t h =
     record { cells-few = f .0; values-few = omega arith; cells-narrow = f .1 }
-symbol-takes (or w cell y) f instead t h = takes-as (spare y) (owed y) (omega (arith, spare-most y)) (takes-cells t (omega arith) (each-one (f .0)))
+symbol-takes (or w cell y) f instead t h = takes-as (extra y) (missing y) (omega (arith, extra-most y)) (takes-cells t (omega arith) (each-one (f .0)))
 symbol-takes (or w cell y) f (given a) t h = symbol-takes y (f .1) a t (h .1)
 
-symbol-narrow : {A : Type 0} (y : Symbol A) → SymbolFits y → Narrow (spare y) (owed y) (symbol y)
+symbol-narrow : {A : Type 0} (y : Symbol A) → SymbolFits y → Narrow (extra y) (missing y) (symbol y)
 unfolding gather
 symbol-narrow y f = record { takes = λ a ts p. rw (p .1) (symbol-takes y f a (p .0) (p .2)) }
 
@@ -249,7 +250,7 @@ plain-narrow = symbol-narrow (value []) (omega arith, each-none)
 choice-narrow : {A : Type 0} {cell : A → ℕ} {words : List (Word A)} {out : A → Bool} → ((a : A) → FitsU16 (cell a)) → Narrow 1 0 (symbol (choice cell words out))
 choice-narrow {cell = cell} {words = words} {out = out} le = symbol-narrow (choice cell words out) le
 
--- "a count and that many pairs": an index pays for the value after it
+-- "a count and that many pairs": an index and a value, two tokens
 pairs-narrow : (bound : ℕ) → bound ≤ 65535 → (k : ℕ) → Narrow 0 0 (items k (pair bound))
 pairs-narrow bound le k =
     items-narrow (λ before p. narrow-as 0 0 (omega arith) (view-narrow (then-narrow (number-narrow (omega arith)) (λ a us p. plain-narrow))))
@@ -317,7 +318,7 @@ solution-narrow n before le =
     narrow-as 0 0 (omega arith)
     (view-narrow (then-narrow (symbol-narrow (rowName _ []) tt) (λ t us p. terms-narrow n le)))
 
--- the words `RTP` and `range` pay for the two ends
+-- an end is one token; `RTP`, `range` and two ends are four
 end-narrow : (w : Bytes) → Narrow 0 1 (endOr w)
 end-narrow w = view-narrow (symbol-narrow (or w 0 (value (1 ∷ []))) (lit< tt, (omega arith, each-one (lit< tt))))
 

@@ -1,3 +1,6 @@
+-- What a reader has to believe of certificates as text, in reading order: the reasons of refusal; the tree that is kept of a
+-- text; formats and what spells them; the grammar; reading, and that it agrees with spelling; what a text spells and reading it
+-- gives; what the tables hold; 01's example and worked cases. Then what is proved of them.
 pub mod Refusals
 pub mod Tree
 pub mod Format
@@ -14,4 +17,5 @@ pub mod Contents
 pub mod Names
 pub mod Ranges
 pub mod Fits
+pub mod Positions
 pub mod Rows

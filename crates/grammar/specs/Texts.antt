@@ -1,6 +1,6 @@
 -- What a text spells, what reading it gives, and that these agree (document 01, "Spelling" and "Reasons of refusal").
 -- Assumes nothing.
-use mathlib.Core.Path.{_≡_, sym, _∙_, ap, subst}
+use mathlib.Core.Path.{_≡_, refl, sym, _∙_, ap, subst}
 use mathlib.Core.Logic.{_↔_}
 use mathlib.Core.List.{List}
 use Prim.Native.Nat.{ℕ}
@@ -90,6 +90,13 @@ module _ (text : Bytes) where
   -- a text is taken exactly if it spells a tree
   pub taken-spelled : (tree : Tree) → (readOf text ≡ taken tree) ↔ SpellsTree text tree
   taken-spelled tree = (read-sound tree, read-complete tree)
+
+  -- a text is taken exactly if it spells some certificate
+  pub taken-certificate : ((tree : Tree) × (readOf text ≡ taken tree)) ↔ ((c : Certificate) × SpellsCertificate text c)
+  taken-certificate = (
+    λ r. (certificateOf (r .0), record { tree = r .0; spells = read-sound (r .0) (r .1); lists = refl }),
+    λ c. (c .1 .tree, read-complete (c .1 .tree) (c .1 .spells)),
+  )
 
   -- no text spells two
   pub spelled-once : (a b : Tree) → SpellsTree text a → SpellsTree text b → a ≡ b

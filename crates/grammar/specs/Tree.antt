@@ -1,6 +1,7 @@
 -- A certificate as a tree: what is kept of a text that is read. The rules of checking are stated on it; how it is spelled is
 -- said in Certificate.antt. Words in quotes are document 01's.
--- Counts are kept beside their lists, since the text has both; in a tree that is spelled each count is its list's length.
+-- Counts are kept beside their lists, since the text has both; in a tree that is spelled each count is its list's length
+-- (Ranges.antt).
 -- Assumes nothing.
 use mathlib.Core.List.{List}
 use Prim.Native.Nat.{ℕ}

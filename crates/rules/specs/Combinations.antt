@@ -60,7 +60,7 @@ emptyCombination = record { coefficient = λ v. zeroF; right = zeroF }
 
 -- the coefficients with another one for a variable
 abbrev pub withCoefficient : ℕ → Fraction → (ℕ → Fraction) → ℕ → Fraction
-withCoefficient v f coefficient w = cond (eqb w v) f (coefficient w)
+withCoefficient v f coefficient w = cond (eqb v w) f (coefficient w)
 
 -- one term: "product, then sum for that variable"
 abbrev pub AddsMultiple : Fraction → (ℕ → Fraction) → Term → (ℕ → Fraction) → Type 0

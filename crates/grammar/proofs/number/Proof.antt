@@ -1,6 +1,5 @@
 -- `grammar::number` meets its contract: each arm gives its case's number.
 use mathlib.Core.Path.{_≡_, sym, ap}
-use Prim.Native.Nat.{ℕ}
 use Rattle.grammar.specs.Refusals.{refusalNumber}
 use Rattle.grammar.specs.declared.Refusal.{Refusal}
 use borrow.Author.Needs.{needs}

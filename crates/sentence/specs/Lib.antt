@@ -1,0 +1,13 @@
+-- The sentence about points, in reading order: what it says; what holds of every certificate that was read; and the proof:
+-- senses, fractions as whole numbers, left sides, each rule, all rows, the claim, certificates as texts spell them.
+pub mod Points
+pub mod Verified
+pub mod Formed
+pub mod Senses
+pub mod Scale
+pub mod Lines
+pub mod Sound
+pub mod Derive
+pub mod Meaning
+pub mod Spelled
+pub mod Worked
