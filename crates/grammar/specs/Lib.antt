@@ -15,6 +15,7 @@ pub mod Example
 pub mod Worked
 pub mod Contents
 pub mod Names
+pub mod AllNames
 pub mod Ranges
 pub mod Fits
 pub mod Positions

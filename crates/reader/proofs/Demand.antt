@@ -1,0 +1,148 @@
+-- The promise of Read a certificate: its equations in each course of a reading, and demand 3 from the equations.
+-- Assumes nothing.
+use mathlib.Core.Path.{_≡_, refl, sym, ap, _∙_, subst}
+use mathlib.Core.Bool.{true, false}
+use mathlib.Core.List.{List}
+use Prim.Native.Nat.{ℕ, _-_, _≤_, _<_}
+use native.Mathlib.Omega.{arith}
+use lib.IntN.{ℤ, pos}
+use lib.Seq.{sets}
+use lib.ListN.{length, replicate, length-append, length-replicate}
+use borrow.Author.Tests.{le-leb, lt-leb}
+use Rattle.text.specs.Bytes.{Bytes}
+use Rattle.text.specs.Lines.{lineOf}
+use Rattle.grammar.specs.Tree.{Tree}
+use Rattle.grammar.specs.Certificate.{certificate}
+use Rattle.grammar.specs.Layout.{cells, marks}
+use Rattle.grammar.specs.Layout as L
+use Rattle.grammar.specs.Tables.{indexCells, valueCells, rowCells, filled, byTurns, laid, indexTable, valueTable, rowTable}
+use Rattle.grammar.specs.Texts.{SpellsTree, ReadText, taken, refused, readOf, read-sound, read-complete, taken-certificate, certificate-once}
+use Rattle.grammar.specs.Names.{names-stand}
+use Rattle.grammar.specs.AllNames.{tree-names}
+use Rattle.grammar.specs.Fits.{fits}
+use Rattle.grammar.specs.Rows.{RowAt, row-found}
+use Rattle.grammar.specs.Refusals.{refusalNumber}
+use Rattle.grammar.specs.declared.Refusal.{Refusal}
+use Rattle.grammar.specs.declared.Refusal.the-variants.{TableTooSmall, TextTooLong}
+use Rattle.reader.specs.Steps.{state}
+use Rattle.reader.specs.Documents.{start, placesOf, Written, AnswersToEnd, ReadsToEnd}
+use Rattle.reader.specs.Promise.{Course, not-begun, begun, hasCells, isShort, mostBytes, courseOf, Answer, takes, refuses, readingSays, answerOf, tableOf, Holds, Equations, Begun, CertificateRead}
+use Rattle.reader.specs.declared.Cursor.{Cursor}
+use Rattle.reader.specs.declared.Places.{Places}
+use Rattle.reader.specs.declared.Reading.{Reading}
+use Rattle.reader.specs.declared.Reading.the-variants.{Taken, Refused}
+use Rattle.reader.specs.declared.documents.Document.{Document}
+use Rattle.reader.specs.declared.documents.Document.the-variants as document
+use Rattle.reader.proofs.Fill.{filled-cleared}
+
+no : {A : Type 0} → _≡_ {A = ℕ} 0 1 → A
+no z = absurd (omega arith)
+
+filled-length : {A : Type 0} (z : A) (size : ℕ) (xs : List A) → length xs ≤ size → length (filled z size xs) ≡ size
+filled-length z size xs h = omega (arith, length-append xs (replicate (size - length xs) z), length-replicate (size - length xs) z)
+
+-- ---- the equations, in each course
+
+module _ {text : Bytes} {index : List ℕ} {values : List ℤ} {rows : List ℕ} where
+  -- all of them from the course that was taken
+  by-course : (course : Course) → courseOf text (length index) (length values) (length rows) ≡ course → {index′ : List ℕ} {values′ : List ℤ} {rows′ : List ℕ} {r : Reading}
+      → readingSays r ≡ answerOf text course → index′ ≡ tableOf 0 indexTable index course → values′ ≡ tableOf (pos 0) valueTable values course → rows′ ≡ tableOf 0 rowTable rows course
+      → Equations text index values rows index′ values′ rows′ r
+  by-course course e a i v r =
+      record {
+        answer = a ∙ ap (answerOf text) (sym e);
+        index-table = i ∙ ap (tableOf 0 indexTable index) (sym e);
+        value-table = v ∙ ap (tableOf (pos 0) valueTable values) (sym e);
+        row-table = r ∙ ap (tableOf 0 rowTable rows) (sym e);
+      }
+
+  small-table : hasCells (length index) (length values) (length rows) ≡ false → Equations text index values rows index values rows (Refused TableTooSmall 0)
+  small-table e = by-course (not-begun 1) (rw e refl) refl refl refl refl
+
+  pub small-index : length index < indexCells → Equations text index values rows index values rows (Refused TableTooSmall 0)
+  small-index h = small-table (rw (lt-leb indexCells (length index) h) refl)
+
+  module _ (i : indexCells ≤ length index) where
+    pub small-values : length values < valueCells → Equations text index values rows index values rows (Refused TableTooSmall 0)
+    small-values h = small-table (rw (le-leb indexCells (length index) i, lt-leb valueCells (length values) h) refl)
+
+    module _ (v : valueCells ≤ length values) where
+      pub small-rows : length rows < rowCells → Equations text index values rows index values rows (Refused TableTooSmall 0)
+      small-rows h = small-table (rw (le-leb indexCells (length index) i, le-leb valueCells (length values) v, lt-leb rowCells (length rows) h) refl)
+
+      pub long-text : rowCells ≤ length rows → mostBytes < length text → Equations text index values rows index values rows (Refused TextTooLong 0)
+      long-text r h = by-course (not-begun 2) (rw (le-leb indexCells (length index) i, le-leb valueCells (length values) v, le-leb rowCells (length rows) r, lt-leb (length text) mostBytes h) refl) refl refl refl refl
+
+  pub begun-course : Begun text index values rows → courseOf text (length index) (length values) (length rows) ≡ begun (readOf text)
+  begun-course b = rw (le-leb _ _ (b .index-cells), le-leb _ _ (b .value-cells), le-leb _ _ (b .row-cells), le-leb _ _ (b .short)) refl
+
+  module _ (b : Begun text index values rows) {index₀ : List ℕ} {values₀ : List ℤ} {rows₀ : List ℕ} {index₁ : List ℕ} {values₁ : List ℤ} {rows₁ : List ℕ} {d : Document} (h : ReadsToEnd text (state (start text) index₀ values₀ rows₀) index₁ values₁ rows₁ d) where
+    -- it was read to the end, into tables that were cleared
+    pub taken-equations : {places : Places} {c : Cursor} → d ≡ document.Read places c
+        → index₀ ≡ replicate (length index) 0 → values₀ ≡ replicate (length values) (pos 0) → rows₀ ≡ replicate (length rows) 0
+        → Equations text index values rows index₁ values₁ rows₁ (Taken places)
+    unfolding indexTable valueTable rowTable
+    taken-equations {places} {c} e i v r =
+        let w : Written text places (state (start text) index₀ values₀ rows₀) index₁ values₁ rows₁ = subst (λ (x : Document). AnswersToEnd text (state (start text) index₀ values₀ rows₀) index₁ values₁ rows₁ x) e (h .is) in
+        let f = fits (read-sound text (w .tree) (w .reads)) (b .short) in
+        by-course (begun (taken (w .tree))) (begun-course b ∙ ap begun (w .reads)) (ap takes (w .places-are))
+        (w .index-is ∙ (λ k. sets (i k) 0 (cells certificate (w .tree))) ∙ filled-cleared 0 (length index) (cells certificate (w .tree)) (omega (arith, f .index-inside, b .index-cells)))
+        (w .values-is ∙ (λ k. sets (v k) 0 (byTurns (L.values certificate (w .tree)))) ∙ filled-cleared (pos 0) (length values) (byTurns (L.values certificate (w .tree))) (omega (arith, f .values-inside, b .value-cells)))
+        (w .rows-is ∙ (λ k. laid (r k) (marks certificate (w .tree) 0 0)))
+
+    -- it was refused, and the tables were cleared again
+    pub refused-equations : {q : Refusal} {p line : ℕ} → d ≡ document.Refused q p → line ≡ lineOf text p → {index′ : List ℕ} {values′ : List ℤ} {rows′ : List ℕ}
+        → index′ ≡ replicate (length index) 0 → values′ ≡ replicate (length values) (pos 0) → rows′ ≡ replicate (length rows) 0
+        → Equations text index values rows index′ values′ rows′ (Refused q line)
+    refused-equations {q} {p} e l i v r =
+        let w : readOf text ≡ refused (refusalNumber q) p = subst (λ (x : Document). AnswersToEnd text (state (start text) index₀ values₀ rows₀) index₁ values₁ rows₁ x) e (h .is) in
+        by-course (begun (refused (refusalNumber q) p)) (begun-course b ∙ ap begun w) (ap (refuses (refusalNumber q)) l) i v r
+
+-- ---- demand 3
+
+module _ {text : Bytes} {index : List ℕ} {values : List ℤ} {rows : List ℕ} {index′ : List ℕ} {values′ : List ℤ} {rows′ : List ℕ} {r : Reading} (e : Equations text index values rows index′ values′ rows′ r) where
+  answer-is : Begun text index values rows → readingSays r ≡ answerOf text (begun (readOf text))
+  answer-is b = e .answer ∙ ap (answerOf text) (begun-course b)
+
+  read-tree : Begun text index values rows → (places : Places) × (r ≡ Taken places) → (tree : Tree) × (readOf text ≡ taken tree)
+  read-tree b t = go (readOf text) refl (sym (ap readingSays (t .1)) ∙ answer-is b)
+    where
+      go : (x : ReadText) → readOf text ≡ x → takes (t .0) ≡ answerOf text (begun x) → (tree : Tree) × (readOf text ≡ taken tree)
+      go (taken tree) p q = (tree, p)
+      go (refused k m) p q = no (cc)
+
+  tree-read : Begun text index values rows → (tree : Tree) × (readOf text ≡ taken tree) → (places : Places) × (r ≡ Taken places)
+  tree-read b t = go r refl (answer-is b ∙ ap (λ (x : ReadText). answerOf text (begun x)) (t .1))
+    where
+      go : (x : Reading) → r ≡ x → readingSays x ≡ takes (placesOf (t .0)) → (places : Places) × (r ≡ Taken places)
+      go (Taken places) p q = (places, p)
+      go (Refused k m) p q = no (cc)
+
+  module _ (b : Begun text index values rows) (tree : Tree) (s : SpellsTree text tree) where
+    course-is : courseOf text (length index) (length values) (length rows) ≡ begun (taken tree)
+    course-is = begun-course b ∙ ap begun (read-complete text tree s)
+
+    hold : Holds text index′ values′ rows′ tree
+    unfolding indexTable valueTable
+    hold =
+        let f = fits s (b .short) in
+        let i : index′ ≡ filled 0 (length index) (cells certificate tree) = e .index-table ∙ ap (tableOf 0 indexTable index) course-is in
+        let v : values′ ≡ filled (pos 0) (length values) (byTurns (L.values certificate tree)) = e .value-table ∙ ap (tableOf (pos 0) valueTable values) course-is in
+        let r : rows′ ≡ rowTable (length rows) tree = e .row-table ∙ ap (tableOf 0 rowTable rows) course-is in
+        let il : length index′ ≡ length index = ap length i ∙ filled-length 0 (length index) (cells certificate tree) (omega (arith, f .index-inside, b .index-cells)) in
+        let vl : length values′ ≡ length values = ap length v ∙ filled-length (pos 0) (length values) (byTurns (L.values certificate tree)) (omega (arith, f .values-inside, b .value-cells)) in
+        record {
+          numbers-held = i ∙ ap (λ (n : ℕ). filled 0 n (cells certificate tree)) (sym il);
+          values-held = v ∙ ap (λ (n : ℕ). filled (pos 0) n (byTurns (L.values certificate tree))) (sym vl);
+          names-are = tree-names tree;
+          names-held = record { holds = λ m x. (subst (λ (table : List ℕ). RowAt table m) (sym r) (row-found s (length rows) (b .row-cells) m x), names-stand s .holds m x) };
+        }
+
+  pub promised : CertificateRead text index values rows index′ values′ rows′ r
+  promised =
+      record {
+        equations = e;
+        taken-exactly = λ b. (λ t. taken-certificate text .0 (read-tree b t), λ c. tree-read b (taken-certificate text .1 c));
+        spelled-once = certificate-once text;
+        held = λ b tree s. hold b tree s;
+      }

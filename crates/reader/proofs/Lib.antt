@@ -1,0 +1,14 @@
+-- Laws that the proofs of reading cite: runs of stores, the composition of readings, what tokens mean.
+mod Tables
+mod Laws
+mod Decoding
+mod Turns
+mod Listed
+mod Alternatives
+mod Choices
+mod Names
+mod Reasons
+mod SectionLaws
+mod Fill
+mod Whole
+mod Demand
