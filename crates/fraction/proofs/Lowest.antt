@@ -4,7 +4,7 @@
 use mathlib.Core.Path.{_≡_, refl, sym, _∙_, ap, ap₂, subst}
 use mathlib.Core.Bool.{Bool, true, false, not, Bool·beq}
 use Prim.Native.Nat.{ℕ, zero, suc, _+_, _*_, _/_, _%_, _≤_, _<_, _∣_}
-use native.Mathlib.Nat.{mul-pos, mul-assoc, mul-comm, mul-one, mul-left-comm, mul-div-cancel', div-mul-cancel, mul-div-assoc, dvd-refl, dvd-trans, dvd-mul-right, eq-one-of-dvd-one, pos-of-dvd-of-pos, mul-le-mul}
+use native.Mathlib.Nat.{zero-div, mul-pos, mul-assoc, mul-comm, mul-one, mul-left-comm, mul-div-cancel', div-mul-cancel, mul-div-assoc, dvd-refl, dvd-trans, dvd-mul-right, eq-one-of-dvd-one, pos-of-dvd-of-pos, mul-le-mul}
 use native.Mathlib.Omega.{arith}
 use lib.IntN.{ℤ, pos, negsuc, negℤ, natAbs, _+ℤ_, _*ℤ_}
 use lib.Signed.{quotZ}
@@ -28,6 +28,16 @@ sign-mul false a b = refl
 quot-sign : (z : ℤ) (h : ℕ) → quotZ z (pos h) ≡ withSign (isNegative z) (natAbs z / h)
 quot-sign (pos n) h = refl
 quot-sign (negsuc n) h = refl
+
+quot-with-sign : (s : Bool) (n g : ℕ) → quotZ (withSign s n) (pos g) ≡ withSign s (n / g)
+quot-with-sign true zero g = rw (zero-div g)
+quot-with-sign true (suc n) g = refl
+quot-with-sign false n g = refl
+
+-- by sign and magnitude: both parts divided by their greatest common divisor
+pub lowest-by : (s : Bool) (p q g : ℕ) → g ≡ gcd p q → lowest (over (withSign s p) q) ≡ over (withSign s (p / g)) (q / g)
+unfolding lowest
+lowest-by s p q g e = rw (natAbs-withSign s p, ← e, quot-with-sign s p g)
 
 -- ---- a common divisor is positive, where one of the two numbers is
 

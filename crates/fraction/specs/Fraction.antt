@@ -2,12 +2,13 @@
 -- derivations"): what each gives or refuses, for every pair of numbers whatever.
 -- Assumes nothing.
 use mathlib.Core.Path.{_≡_}
-use mathlib.Core.Bool.{Bool, true, false, cond, _&&_}
+use mathlib.Core.Bool.{Bool, true, false, cond, not, _&&_}
 use Prim.Native.Nat.{ℕ, _≤_}
 use lib.Dec.{leb, eqb}
 use lib.IntN.{ℤ, pos, natAbs, _*ℤ_}
 use lib.Signed.{ltZ, _<ℤ_}
 use Rattle.integers.specs.Gcd.{gcd}
+use Rattle.integers.specs.Signs.{withSign}
 use Rattle.fraction.specs.Outcome.{Outcome, gives, refuses}
 use Rattle.fraction.specs.Quotient.{Quotient, _+Q_, _*Q_, lowest, floorQ, ceilingQ}
 use Rattle.fraction.specs.declared.Fraction.{Fraction}
@@ -51,6 +52,10 @@ within x =
 -- wide"; "Every product and every sum is brought to lowest terms"
 unfoldable pub onFractions : {A : Type 0} → Bool → Outcome A → Outcome A
 onFractions operands x = cond operands x (refuses 4)
+
+-- a numerator with its sign over a denominator, brought to lowest terms; a denominator of 0 makes no fraction
+abbrev pub reducedOf : Bool → ℕ → ℕ → Outcome Fraction
+reducedOf negative n d = onFractions (not (eqb d 0)) (within (lowest (record { top = withSign negative n; bottom = d })))
 
 abbrev pub productOf : Fraction → Fraction → Outcome Fraction
 productOf a b = onFractions (isFraction a && isFraction b) (within (lowest (exact a *Q exact b)))

@@ -8,16 +8,17 @@ use mathlib.Core.Bool.{Bool, true, false, not, cond, _&&_}
 use Prim.Native.Nat.{ℕ, _*_, _≤_, _<_}
 use native.Mathlib.Nat.{mul-pos}
 use native.Mathlib.Omega.{arith}
-use borrow.Author.Tests.{ltb-true, leb-true, eqb-true, le-leb, lt-ltb, eq-eqb}
+use borrow.Author.Tests.{ltb-true, leb-true, eqb-true, le-leb, lt-ltb, eq-eqb, ne-eqb}
 use lib.Dec.{T, leb, eqb}
 use lib.IntN.{ℤ, pos, negsuc, natAbs, _*ℤ_}
 use lib.Signed.{ltZ, ltZ-no, _≤ℤ_, _<ℤ_}
 use Rattle.integers.specs.Integers.{≤ℤ-antisym}
 use Rattle.integers.specs.Gcd.{gcd}
+use Rattle.integers.specs.Signs.{withSign}
 use Rattle.fraction.specs.Outcome.{Outcome, gives, refuses}
 use Rattle.fraction.specs.Quotient.{Quotient, _≈_, _≤Q_, _<Q_, _+Q_, _*Q_, wholeQ, lowest, floorQ, ceilingQ}
 use Rattle.fraction.specs.QuotientLaws.{Positive, ≈-sym, ≤Q-of-≈, ≤Q-of-<, <Q-clash, lowest-positive, lowest-coprime, lowest-equal, lowest-terms-unique, lowest-is, floor-below, floor-greatest, ceiling-above, ceiling-least}
-use Rattle.fraction.specs.Fraction.{limit, IsFraction, isFraction, exact, within, onFractions, productOf, sumOf, Order, less, equal, greater, order, orderQ, compareOf, floorOf, ceilingOf}
+use Rattle.fraction.specs.Fraction.{limit, IsFraction, isFraction, exact, within, onFractions, reducedOf, productOf, sumOf, Order, less, equal, greater, order, orderQ, compareOf, floorOf, ceilingOf}
 use Rattle.fraction.specs.declared.Fraction.{Fraction}
 
 -- ---- the test and the words
@@ -174,6 +175,22 @@ product-means a b = means a b (exact a *Q exact b) (λ v. mul-pos (exact-positiv
 
 pub sum-means : (a b : Fraction) → Means a b (exact a +Q exact b) (sumOf a b)
 sum-means a b = means a b (exact a +Q exact b) (λ v. mul-pos (exact-positive a (v .0)) (exact-positive b (v .1)))
+
+-- n / d, where d is not 0: the fraction that equals it, or 12 where none does
+pub record MeansReduced (negative : Bool) (n d : ℕ) : Type 0 where
+  pub zero-refused : d ≡ 0 → reducedOf negative n d ≡ refuses 4
+  pub reduced-exactly : 0 < d → (f : Fraction) → (reducedOf negative n d ≡ gives f) ↔ (IsFraction f × (exact f ≈ record { top = withSign negative n; bottom = d }))
+  pub reduced-refused : 0 < d → (reducedOf negative n d ≡ refuses 12) ↔ ((f : Fraction) → IsFraction f → exact f ≈ record { top = withSign negative n; bottom = d } → ⊥)
+
+pub reduced-means : (negative : Bool) (n d : ℕ) → MeansReduced negative n d
+unfolding onFractions
+reduced-means negative n d =
+    let x : Quotient = record { top = withSign negative n; bottom = d } in
+    record {
+      zero-refused = λ e. rw e refl;
+      reduced-exactly = λ h f. rw (ne-eqb d 0 (omega arith)) (within-sound x h f, λ p. within-complete x h f (p .0) (p .1));
+      reduced-refused = λ h. rw (ne-eqb d 0 (omega arith)) (within-else x h, within-none x h);
+    }
 
 -- ---- comparison: the order of the rational numbers, which `QuotientLaws` proves total and transitive
 

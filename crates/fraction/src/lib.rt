@@ -8,7 +8,7 @@ ghost use lib.Signed.{_<ℤ_};
 ghost use Rattle.integers.specs.Gcd.{gcd as gcdOf};
 ghost use Rattle.integers.specs.Signs.{withSign};
 ghost use Rattle.fraction.specs.Quotient.{_+Q_, _*Q_, lowest, floorZ, ceilingZ};
-ghost use Rattle.fraction.specs.Fraction.{limit, isFraction, within as withinOf, productOf, sumOf, compareOf, order, floorOf, ceilingOf, arithmeticSays, comparisonSays, roundingSays};
+ghost use Rattle.fraction.specs.Fraction.{limit, isFraction, within as withinOf, reducedOf, productOf, sumOf, compareOf, order, floorOf, ceilingOf, arithmeticSays, comparisonSays, roundingSays};
 ghost use Rattle.fraction.specs.Outcome.{gives};
 ghost use Rattle.fraction.specs.Parts.{Parts, over};
 
@@ -44,6 +44,20 @@ pub enum Rounding {
 
 // The greatest common divisor, by Euclid's loop.
 fn gcd(a: u32, b: u32) -> u32
+    ensures { λ r. ⌜ r ≡ gcdOf a b ⌝ }
+{
+    let mut x = a;
+    let mut y = b;
+    while y != 0 {
+        let t = x % y;
+        x = y;
+        y = t;
+    }
+    x
+}
+
+// The same, of numbers of 64 bits.
+fn gcd_wide(a: u64, b: u64) -> u64
     ensures { λ r. ⌜ r ≡ gcdOf a b ⌝ }
 {
     let mut x = a;
@@ -135,6 +149,17 @@ fn within(neg: bool, n: u64, d: u64) -> Arithmetic
         num: signed(neg, n),
         den: signed(false, d),
     })
+}
+
+// n / d, negated if asked, brought to lowest terms. No fraction has the denominator 0.
+pub fn reduced(negative: bool, n: u64, d: u64) -> Arithmetic
+    ensures { λ r. ⌜ arithmeticSays r ≡ reducedOf negative n d ⌝ }
+{
+    if d == 0 {
+        return Arithmetic::NotAFraction;
+    }
+    let g = gcd_wide(n, d);
+    within(negative, n / g, d / g)
 }
 
 // n / d times m / e. The common divisors of n and e, and of m and d, are divided out before the products are formed: what

@@ -1,7 +1,7 @@
 -- The promise of Read a certificate: its equations in each course of a reading, and demand 3 from the equations.
 -- Assumes nothing.
 use mathlib.Core.Path.{_≡_, refl, sym, ap, _∙_, subst}
-use mathlib.Core.Bool.{true, false}
+use mathlib.Core.Bool.{false}
 use mathlib.Core.List.{List}
 use Prim.Native.Nat.{ℕ, _-_, _≤_, _<_}
 use native.Mathlib.Omega.{arith}
@@ -26,7 +26,7 @@ use Rattle.grammar.specs.declared.Refusal.{Refusal}
 use Rattle.grammar.specs.declared.Refusal.the-variants.{TableTooSmall, TextTooLong}
 use Rattle.reader.specs.Steps.{state}
 use Rattle.reader.specs.Documents.{start, placesOf, Written, AnswersToEnd, ReadsToEnd}
-use Rattle.reader.specs.Promise.{Course, not-begun, begun, hasCells, isShort, mostBytes, courseOf, Answer, takes, refuses, readingSays, answerOf, tableOf, Holds, Equations, Begun, CertificateRead}
+use Rattle.reader.specs.Promise.{Course, not-begun, begun, hasCells, mostBytes, courseOf, takes, refuses, readingSays, answerOf, tableOf, Holds, Equations, Begun, CertificateRead}
 use Rattle.reader.specs.declared.Cursor.{Cursor}
 use Rattle.reader.specs.declared.Places.{Places}
 use Rattle.reader.specs.declared.Reading.{Reading}

@@ -1,31 +1,27 @@
 -- What the proofs of the sections cite: a section is its word and then the rest.
 -- Assumes nothing.
 use mathlib.Core.Path.{_≡_, refl, ap, subst}
-use mathlib.Core.Bool.{Bool, true, false, not}
+use mathlib.Core.Bool.{not}
 use mathlib.Core.List.{List, [], _∷_, _++_}
-use Prim.Native.Nat.{ℕ, suc, _+_, _*_, _≤_, _<_}
+use Prim.Native.Nat.{ℕ, _+_, _*_, _≤_}
 use native.Mathlib.Omega.{arith}
-use lib.Dec.{ltb, eqb}
 use lib.IntN.{ℤ, pos}
 use lib.ListN.{length, replicate, length-replicate}
-use borrow.Author.Tests.{ltb-true}
-use Rattle.text.specs.Bytes.{Bytes, isNumeral, numberOf}
-use Rattle.text.specs.Tokens.{Stream, end, token, rest}
-use Rattle.fraction.specs.Outcome.{gives}
+use Rattle.text.specs.Bytes.{Bytes}
+use Rattle.text.specs.Tokens.{Token, rest}
 use Rattle.grammar.specs.Tree.{End, infinite, finite, infeas}
-use Rattle.grammar.specs.Format.{given, Symbol, word, placed, number, rowName, or, Format, symbol, items}
+use Rattle.grammar.specs.Format.{Symbol, word, placed, number, rowName, or, Format, symbol, items}
 use Rattle.grammar.specs.Certificate.{oneOf, countTo, newIndexBelow, endOr, ClaimWord, infeasWord, rangeWord, claimCell, claim, section}
-use Rattle.grammar.specs.Spelling.{isAmong}
-use Rattle.grammar.specs.Reading.{got, unless, kept, readSymbol, read}
+use Rattle.grammar.specs.Spelling.{Spells}
+use Rattle.grammar.specs.Agreement.{sound}
 use Rattle.grammar.specs.Layout.{symbolValues, gather, gatherItems, cells}
 use Rattle.grammar.specs.Tables.{valueCells}
 use Rattle.reader.specs.Steps.{State, IndexRoom, ValueRoom, RowRoom, Went, Stopped, any, the, Answers, Reads}
-use Rattle.reader.specs.Leaves.{startsWith}
 use Rattle.reader.specs.declared.Cursor.{Cursor}
 use Rattle.reader.specs.declared.Step.{Step}
 use Rattle.reader.specs.declared.Step.the-variants.{Next, Stop}
 use Rattle.reader.proofs.Laws.{then-stop, then-stops, then-went, then-any, view-stop, view-went, view-any, nothing-went, count-to}
-use Rattle.reader.proofs.Alternatives.{unit, word-went, word-stopped, or-given, or-stopped}
+use Rattle.reader.proofs.Alternatives.{unit, word-went, word-stopped}
 use Rattle.reader.proofs.Choices.{claimWords}
 
 -- ---- room where no table is at hand: what is said of all tables is used at these
@@ -76,16 +72,6 @@ pub indices-cells : (bound n : ℕ) (is : List ℕ) → cells (items n (newIndex
 unfolding gather
 indices-cells bound n is = indices-from bound [] is
 
--- ---- the word of an alternative was not there: the other symbol's answer is the answer
-
-pub or-reads : {A : Type 0} (w : Bytes) (cell : ℕ) (y : Symbol A) {text : Bytes} {s : State} → startsWith w (rest text (s .cursor .at)) ≡ false
-    → {told : A → ℕ → Type 0} {ix : List ℕ} {vs : List ℤ} {rs : List ℕ} {r : Step} → Reads (symbol y) told text s ix vs rs r → Reads (symbol (or w cell y)) any text s ix vs rs r
-or-reads w cell y {text} {s} e {told} {ix} {vs} {rs} {r} k = record { is = by r (k .is) }
-  where
-    by : (x : Step) → Answers (symbol y) told text s ix vs rs x → Answers (symbol (or w cell y)) any text s ix vs rs x
-    by (Next n c) h = (given (h .0), tt, or-given w cell y e (h .2))
-    by (Stop q p) h = or-stopped w cell y e h
-
 -- ---- a claim: `infeas`, or `range` and two ends
 
 abbrev claimWord : Format ClaimWord
@@ -111,25 +97,14 @@ unfolding gather
 left-after-end infinite h left = omega (arith, h .ahead, h .values-at)
 left-after-end (finite f) h left = omega (arith, h .ahead, h .values-at)
 
--- ---- a count is at most what it may be
+-- ---- what was read is spelled
 
-no : {A : Type 0} → _≡_ {A = ℕ} 0 1 → A
-no z = absurd (omega arith)
+pub spelled : {A : Type 0} {f : Format A} {a : A} {text : Bytes} {s t : State} → Went f a text s t → (ts : List Token) × Spells f a ts
+spelled {A} {f} {a} {text} {s} {t} w = let h = sound f (rest text (s .cursor .at)) a (rest text (t .cursor .at)) (w .reads) in (h .0, h .2)
 
-number-kept : (a b c : Bool) (bound n k p : ℕ) (s u : Stream) → (b ≡ true → n < bound) → kept (unless 4 a (unless 5 b (unless 6 c (gives n)))) p s ≡ got k u → k < bound
-number-kept true true true bound n k p s u h e = let i : n ≡ k = cc in omega (arith, h refl)
-number-kept true true false bound n k p s u h e = no (cc)
-number-kept true false c bound n k p s u h e = no (cc)
-number-kept false b c bound n k p s u h e = no (cc)
-
-number-goes : (bound : ℕ) (used : List ℕ) (o : Stream) (k : ℕ) (u : Stream) → readSymbol (number bound used) o ≡ got k u → k < bound
-number-goes bound used (end size) k u e = no (cc)
-number-goes bound used (token place bytes s) k u e =
-    number-kept (isNumeral bytes) (ltb (numberOf bytes) bound) (not (isAmong eqb (numberOf bytes) used)) bound (numberOf bytes) k place s u (ltb-true (numberOf bytes) bound) e
-
+-- so a count is at most what it may be
 pub count-within : {most n : ℕ} {text : Bytes} {s t : State} → Went (countTo most) n text s t → n ≤ most
-unfolding read
-count-within {most} {n} {text} {s} {t} h = omega (arith, number-goes (suc most) [] (rest text (s .cursor .at)) n (rest text (t .cursor .at)) (h .reads))
+count-within h = omega (arith, spelled h .1 .2 .in-range)
 
 -- ---- the same number or name under another spelling of its bound, its row, or the names used
 

@@ -1,8 +1,8 @@
 -- The reading of the whole from the readings of its sections, and what it says of the text.
 -- Assumes nothing.
 use mathlib.Core.Path.{_≡_, refl, sym, ap, _∙_, subst}
-use mathlib.Core.List.{List, [], _∷_, _++_}
-use Prim.Native.Nat.{ℕ, _+_, _*_, _≤_, _<_}
+use mathlib.Core.List.{List}
+use Prim.Native.Nat.{ℕ, _+_, _*_, _≤_}
 use native.Mathlib.Nat.{zero-add}
 use native.Mathlib.Omega.{arith}
 use lib.IntN.{ℤ}
@@ -13,31 +13,30 @@ use Rattle.text.specs.Comments.{commentsEnd}
 use Rattle.text.specs.CommentsLaws.{comments-inside}
 use Rattle.text.specs.Scans.{Found}
 use Rattle.text.specs.Tokens.{Stream, end, token, rest}
-use Rattle.grammar.specs.Tree.{Tree, Variables, Integers, Objective, Constraints, Relation, Solutions, Derivations}
+use Rattle.grammar.specs.Tree.{Tree, Variables, Integers, Objective, Constraints, Solutions, Derivations}
 use Rattle.grammar.specs.Format.{Format, then, view}
-use Rattle.grammar.specs.Spelling.{Spells}
 use Rattle.grammar.specs.Certificate.{rowNames, version, variables, integers, objectiveSection, constraints, relation, solutionSection, derivationSection, certificate}
-use Rattle.grammar.specs.Reading.{got, stopped, read}
-use Rattle.grammar.specs.Agreement.{sound}
+use Rattle.grammar.specs.Reading.{got, read}
 use Rattle.grammar.specs.Layout.{gather, cells, values, marks}
 use Rattle.grammar.specs.Tables.{indexCells, valueCells, rowCells}
 use Rattle.grammar.specs.Contents.{integersCells, objectiveCells, constraintsCells, termValues, constraintsValues, variables-lay, integers-lay, objective-lay, constraints-lay}
-use Rattle.grammar.specs.Texts.{toTheEnd, taken, refused, readOf}
+use Rattle.grammar.specs.Texts.{toTheEnd, refused, readOf}
 use Rattle.grammar.specs.Refusals.{refusalNumber}
 use Rattle.grammar.specs.declared.Refusal.{Refusal}
 use Rattle.grammar.specs.declared.Refusal.the-variants.{TokenLeft}
 use Rattle.reader.specs.Steps.{State, state, Room, Went, Stopped, Reads}
 use Rattle.reader.specs.Leaves.{namesIn}
 use Rattle.reader.specs.Parts.{derivationSectionBut}
-use Rattle.reader.specs.Documents.{start, placesFrom, placesOf, refusalOf, AnswersAll, ReadsAll, Written, AnswersToEnd, ReadsToEnd}
+use Rattle.reader.specs.Documents.{start, placesOf, refusalOf, AnswersAll, ReadsAll, AnswersToEnd, ReadsToEnd}
 use Rattle.reader.specs.declared.Cursor.{Cursor}
 use Rattle.reader.specs.declared.Places.{Places}
 use Rattle.reader.specs.declared.documents.Document.{Document}
 use Rattle.reader.specs.declared.documents.Document.the-variants as document
 use Rattle.reader.specs.declared.Step.{Step}
-use Rattle.reader.specs.declared.Step.the-variants.{Next, Stop}
+use Rattle.reader.specs.declared.Step.the-variants.{Stop}
 use Rattle.reader.proofs.Laws.{then-went, then-stops, view-went, view-stop}
 use Rattle.reader.proofs.Alternatives.{unit}
+use Rattle.reader.proofs.SectionLaws.{spelled}
 use Rattle.reader.proofs.Names.{marked-laid, marked-beyond, rows-marked, solutions-marked}
 
 -- ---- documents
@@ -76,9 +75,6 @@ module _ {A B : Type 0} {to : A → B} {from : B → A} {p : (a : A) → from (t
       by (document.Refused k m) e = view-stop e
 
 -- ---- what was read is spelled: counts are in range and are the lengths of their lists
-
-spelled : {A : Type 0} {f : Format A} {a : A} {text : Bytes} {s t : State} → Went f a text s t → (ts : List _) × Spells f a ts
-spelled {A} {f} {a} {text} {s} {t} w = let h = sound f (rest text (s .cursor .at)) a (rest text (t .cursor .at)) (w .reads) in (h .0, h .2)
 
 pub variables-most : {v : Variables} {text : Bytes} {s t : State} → Went variables v text s t → v .count ≤ 256
 variables-most w = omega (arith, spelled w .1 .4 .3 .2 .in-range)

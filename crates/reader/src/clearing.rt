@@ -3,19 +3,19 @@ ghost use mathlib.Core.Path.{_≡_};
 ghost use lib.IntN.{pos};
 ghost use lib.ListN.{length, replicate};
 
-pub(crate) fn clear_numbers(table: &mut [u16])
-    ensures { λ _. ⌜ now (table .exit) ≡ replicate (length (now (table .entry))) 0 ⌝ }
+pub(crate) fn clear_numbers(numbers: &mut [u16])
+    ensures { λ _. ⌜ now (numbers .exit) ≡ replicate (length (now (numbers .entry))) 0 ⌝ }
 {
-    for i in 0..table.len() {
-        table[i] = 0;
+    for i in 0..numbers.len() {
+        numbers[i] = 0;
     }
 }
 
-pub(crate) fn clear_values(table: &mut [i32])
-    ensures { λ _. ⌜ now (table .exit) ≡ replicate (length (now (table .entry))) (pos 0) ⌝ }
+pub(crate) fn clear_values(values: &mut [i32])
+    ensures { λ _. ⌜ now (values .exit) ≡ replicate (length (now (values .entry))) (pos 0) ⌝ }
 {
-    for i in 0..table.len() {
-        table[i] = 0;
+    for i in 0..values.len() {
+        values[i] = 0;
     }
 }
 

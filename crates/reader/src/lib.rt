@@ -12,14 +12,14 @@ mod sections;
 mod symbols;
 
 // Where the reading stands: a place in the text, and how many index cells and values are written.
-pub struct Cursor {
-    pub at: usize,
-    pub cells: usize,
-    pub values: usize,
+pub(crate) struct Cursor {
+    pub(crate) at: usize,
+    pub(crate) cells: usize,
+    pub(crate) values: usize,
 }
 
 // A step of the reading: a number that was read, and where the reading goes on; or a refusal with its place.
-pub enum Step {
+pub(crate) enum Step {
     Next(usize, Cursor),
     Stop(Refusal, usize),
 }

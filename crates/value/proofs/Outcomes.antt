@@ -23,7 +23,7 @@ use Rattle.value.specs.Runs.{Grown, Stands}
 use Rattle.value.specs.declared.Digits.{Digits}
 use Rattle.value.proofs.Powers.{ten-positive, power-within}
 use Rattle.value.proofs.Numbers.{number-append, trailing-number, leading-none, leading-some}
-use Rattle.value.proofs.Widths.{lowest-whole, lowest-scaled}
+use Rattle.value.proofs.Widths.{lowest-scaled}
 
 -- the power of ten for the digits of a decimal part that are no trailing zeros
 module _ (d : Digits) (t : Bytes) (r : Digits) (g : Grown d t r) (k : r .count ≤ mostDigits) (p : ℕ) (q : p ≡ powerOfTen (length t - r .zeros)) where
@@ -50,10 +50,10 @@ module _ (s : Bool) (w : Bytes) (d : Digits) (h : Stands w d) where
   unfolding outcomeOf
   whole-wide k = rw (lt-ltb mostDigits (wholeDigits w) (omega (arith, h .counts)))
 
-  pub whole-narrow : d .count ≤ mostDigits → outcomeOf (withTail s w (some nothing)) ≡ narrowed (over (withSign s (d .number)) 1)
+  pub whole-narrow : d .count ≤ mostDigits → outcomeOf (withTail s w (some nothing)) ≡ narrowed (lowest (over (withSign s (d .number)) 1))
   unfolding outcomeOf quotientOf
   whole-narrow k =
-      rw (le-ltb mostDigits (wholeDigits w) (omega (arith, h .counts)), lowest-whole s (numberOf w), h .spells k)
+      rw (le-ltb mostDigits (wholeDigits w) (omega (arith, h .counts)), h .spells k)
 
   -- ---- a decimal
 

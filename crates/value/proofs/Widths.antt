@@ -1,54 +1,51 @@
--- The outcome of a quotient and of a written form, by the tests that the code makes.
+-- The limit and lowest terms, as the code meets them.
 -- Assumes nothing.
 use mathlib.Core.Path.{_≡_, refl, sym, _∙_, ap}
-use mathlib.Core.Bool.{Bool, true, false}
-use Prim.Native.Nat.{ℕ, zero, suc, _*_, _/_, _≤_, _<_}
-use native.Mathlib.Nat.{zero-div, mul-assoc, mul-pos, eq-one-of-dvd-one}
+use mathlib.Core.Bool.{Bool, true, false, cond, _&&_, _||_}
+use Prim.Native.Nat.{ℕ, _*_, _<_}
+use native.Mathlib.Nat.{mul-assoc, mul-pos}
 use native.Mathlib.Omega.{arith}
-use borrow.Author.Tests.{lt-ltb, le-ltb}
+use borrow.Author.Tests.{lt-ltb, le-ltb, leb-true, leb-false}
+use lib.Dec.{leb, ltb}
 use lib.IntN.{ℤ, pos, negℤ, natAbs, _*ℤ_}
-use lib.Signed.{quotZ}
-use Rattle.integers.specs.Gcd.{gcd, gcd-right}
 use Rattle.integers.specs.Integers.{*ℤ-neg-l}
-use Rattle.integers.specs.Signs.{withSign, natAbs-withSign}
+use Rattle.integers.specs.Signs.{withSign}
 use Rattle.fraction.specs.Outcome.{gives, refuses}
-use Rattle.fraction.specs.Quotient.{_≈_, lowest}
-use Rattle.fraction.specs.QuotientLaws.{≈-refl, lowest-is, lowest-cong}
+use Rattle.fraction.specs.Quotient.{Quotient, _≈_, lowest}
+use Rattle.fraction.specs.QuotientLaws.{lowest-cong}
 use Rattle.fraction.specs.Parts.{over}
-use Rattle.fraction.specs.Fraction.{limit}
+use Rattle.fraction.specs.Fraction.{limit, within}
+use Rattle.fraction.specs.declared.Fraction.{Fraction}
+use Rattle.value.specs.Spelling.{asFraction}
 use Rattle.value.specs.Reading.{narrowed}
 
--- ---- the three ways out of `narrow`
+no : {A : Type 0} → _≡_ {A = ℕ} 0 1 → A
+no z = absurd (omega arith)
 
-module _ (s : Bool) (n d : ℕ) where
-  pub narrow-num : limit < n → narrowed (over (withSign s n) d) ≡ refuses 7
-  unfolding narrowed
-  narrow-num h = rw (natAbs-withSign s n, lt-ltb limit n h)
+-- ---- the limit: what `within` gives is what `narrowed` gives, with 7 for 12
 
-  pub narrow-den : n ≤ limit → limit < d → narrowed (over (withSign s n) d) ≡ refuses 7
-  unfolding narrowed
-  narrow-den h k = rw (natAbs-withSign s n, le-ltb limit n h, lt-ltb limit d k)
+module _ (x : Quotient) where
+  pub narrowed-gives : (f : Fraction) → within x ≡ gives f → narrowed x ≡ gives f
+  unfolding within narrowed
+  narrowed-gives f e = go (leb (natAbs (x .top)) limit) refl (leb (x .bottom) limit) refl e
+    where
+      go : (a : Bool) → leb (natAbs (x .top)) limit ≡ a → (b : Bool) → leb (x .bottom) limit ≡ b → cond (a && b) (gives (asFraction x)) (refuses 12) ≡ gives f
+          → cond (ltb limit (natAbs (x .top)) || ltb limit (x .bottom)) (refuses 7) (gives (asFraction x)) ≡ gives f
+      go true p true q e = rw (le-ltb limit (natAbs (x .top)) (leb-true _ _ p), le-ltb limit (x .bottom) (leb-true _ _ q)) e
+      go true p false q e = no (cc)
+      go false p b q e = no (cc)
 
-  pub narrow-fits : n ≤ limit → d ≤ limit → narrowed (over (withSign s n) d) ≡ gives (record { num = withSign s n; den = pos d })
-  unfolding narrowed
-  narrow-fits h k = rw (natAbs-withSign s n, le-ltb limit n h, le-ltb limit d k)
+  pub narrowed-refuses : (n : ℕ) → within x ≡ refuses n → narrowed x ≡ refuses 7
+  unfolding within narrowed
+  narrowed-refuses n e = go (leb (natAbs (x .top)) limit) refl (leb (x .bottom) limit) refl e
+    where
+      go : (a : Bool) → leb (natAbs (x .top)) limit ≡ a → (b : Bool) → leb (x .bottom) limit ≡ b → cond (a && b) (gives (asFraction x)) (refuses 12) ≡ refuses n
+          → cond (ltb limit (natAbs (x .top)) || ltb limit (x .bottom)) (refuses 7) (gives (asFraction x)) ≡ refuses 7
+      go true p true q e = no (cc)
+      go true p false q e = rw (le-ltb limit (natAbs (x .top)) (leb-true _ _ p), lt-ltb limit (x .bottom) (leb-false _ _ q)) refl
+      go false p b q e = rw (lt-ltb limit (natAbs (x .top)) (leb-false _ _ p)) refl
 
 -- ---- lowest terms, by sign and magnitude
-
-quot-sign : (s : Bool) (n g : ℕ) → quotZ (withSign s n) (pos g) ≡ withSign s (n / g)
-quot-sign true zero g = rw (zero-div g)
-quot-sign true (suc n) g = refl
-quot-sign false n g = refl
-
-pub lowest-by : (s : Bool) (p q g : ℕ) → g ≡ gcd p q → lowest (over (withSign s p) q) ≡ over (withSign s (p / g)) (q / g)
-unfolding lowest
-lowest-by s p q g e = rw (natAbs-withSign s p, ← e, quot-sign s p g)
-
--- a whole number is in lowest terms
-pub lowest-whole : (s : Bool) (n : ℕ) → lowest (over (withSign s n) 1) ≡ over (withSign s n) 1
-lowest-whole s n =
-    let x = over (withSign s n) 1 in
-    lowest-is x x (omega arith) (omega arith) (eq-one-of-dvd-one (gcd-right (natAbs (withSign s n)) 1)) (≈-refl x)
 
 -- a common factor does not matter
 scaled : (s : Bool) (m b c : ℕ) → withSign s (m * c) *ℤ pos b ≡ withSign s m *ℤ pos (c * b)

@@ -5,21 +5,18 @@ ghost use mathlib.Core.List.{_∷_};
 ghost use mathlib.Core.Option.{some};
 ghost use Prim.Native.Nat.{_+_, _^_, _≤_, _<_};
 ghost use lib.ListN.{drop};
-ghost use Rattle.integers.specs.Gcd.{gcd as gcdOf};
 ghost use Rattle.integers.specs.Signs.{withSign};
 ghost use Rattle.text.specs.Bytes.{isDigit, leading};
-ghost use Rattle.fraction.specs.Fraction.{limit};
 ghost use Rattle.fraction.specs.Quotient.{lowest};
 ghost use Rattle.fraction.specs.Parts.{over};
 ghost use Rattle.value.specs.Spelling.{nothing, isZero};
 ghost use Rattle.value.specs.Reading.{tailOf, unsignedForm, narrowed, outcomeOf};
 ghost use Rattle.value.specs.Promise.{ValueRead, valueSays, powerOfTen};
 ghost use Rattle.value.specs.Runs.{room, Bounded, Appended, Longer, RunRead, WholeRead, Ended, WithTail};
+use fraction::Arithmetic;
 use fraction::Fraction;
 
-// The largest magnitude of a numerator or a denominator, and the most digits that may count.
-const LIMIT: u64 = 2147483647;
-
+// The most digits that may count.
 const MOST_DIGITS: usize = 18;
 
 // The answer of reading one value: 01's refusals 4 and 7 are NotAValue and TooWide.
@@ -184,62 +181,26 @@ fn ended(token: &[u8], from: usize, run: Run) -> Part
     Part::Digits(digits)
 }
 
-// The greatest common divisor, by Euclid's loop.
-fn gcd(a: u64, b: u64) -> u64
-    ensures { λ r. ⌜ r ≡ gcdOf a b ⌝ }
-{
-    let mut x = a;
-    let mut y = b;
-    while y != 0 {
-        let t = x % y;
-        x = y;
-        y = t;
-    }
-    x
-}
-
-// A sign, true for negative, and a magnitude as one number.
-fn signed(negative: bool, m: u64) -> i32
-    requires { ⌜ m ≤ limit ⌝ }
-    ensures { λ r. ⌜ r ≡ withSign negative m ⌝ }
-{
-    let p = m as i32;
-    if negative { 0 - p } else { p }
-}
-
-// A quotient that is in lowest terms already, if it is within the limit.
-fn narrow(negative: bool, n: u64, d: u64) -> ValueAnswer
-    ensures { λ r. ⌜ valueSays r ≡ narrowed (over (withSign negative n) d) ⌝ }
-{
-    if n > LIMIT {
-        return ValueAnswer::TooWide;
-    }
-    if d > LIMIT {
-        return ValueAnswer::TooWide;
-    }
-    ValueAnswer::Value(Fraction {
-        num: signed(negative, n),
-        den: signed(false, d),
-    })
-}
-
-// Any quotient: it is brought to lowest terms first.
+// A quotient, brought to lowest terms.
 fn reduce(negative: bool, p: u64, q: u64) -> ValueAnswer
     requires { ⌜ 0 < q ⌝ }
     ensures { λ r. ⌜ valueSays r ≡ narrowed (lowest (over (withSign negative p) q)) ⌝ }
 {
-    let g = gcd(p, q);
-    narrow(negative, p / g, q / g)
+    let a = fraction::reduced(negative, p, q);
+    let Arithmetic::Value(f) = a else {
+        return ValueAnswer::TooWide;
+    };
+    ValueAnswer::Value(f)
 }
 
-// A whole number. It is in lowest terms as it stands.
+// A whole number.
 fn whole_value(negative: bool, whole: Digits) -> ValueAnswer
     ensures { λ r. ⌜ WithTail negative whole (some nothing) (valueSays r) ⌝ }
 {
     if whole.count > MOST_DIGITS {
         return ValueAnswer::TooWide;
     }
-    narrow(negative, whole.number, 1)
+    reduce(negative, whole.number, 1)
 }
 
 // A decimal: `whole` before the point, and the digits from a place on after it.

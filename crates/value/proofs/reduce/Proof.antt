@@ -1,30 +1,51 @@
--- `value::reduce` meets its contract: divided by the greatest common divisor, the quotient is in lowest terms.
+-- `value::reduce` meets its contract: the fraction that the quotient is brought to, or 7 where it is beyond the limit.
 -- Assumes nothing.
 use borrow.Author.Needs.{needs}
-use mathlib.Core.Path.{_∙_, sym, ap}
+use mathlib.Core.Path.{_≡_, refl, sym, _∙_, ap}
+use mathlib.Core.Logic.{_⊎_, inl, inr}
+use Prim.Native.Nat.{ℕ}
 use native.Mathlib.Omega.{arith}
-use Rattle.integers.specs.Gcd.{gcd-positive}
-use Rattle.value.specs.Reading.{narrowed}
-use Rattle.value.proofs.Widths.{lowest-by}
+use borrow.Author.Tests.{ne-eqb}
+use denote.Enum.Declared.{tagOf}
+use Rattle.integers.specs.Signs.{withSign}
+use Rattle.fraction.specs.Outcome.{refuses}
+use Rattle.fraction.specs.Quotient.{lowest}
+use Rattle.fraction.specs.Parts.{over}
+use Rattle.fraction.specs.Fraction.{within, onFractions, arithmeticSays}
+use Rattle.fraction.proofs.Arithmetic.{the-type}
+use Rattle.fraction.specs.declared.Arithmetic.{Arithmetic}
+use Rattle.fraction.specs.declared.Arithmetic.the-variants.{Value, NotAFraction, TooWide}
+use Rattle.value.proofs.Widths.{narrowed-gives, narrowed-refuses}
 use Rattle.value.proofs.reduce.Statement.{statement}
 use Rattle.value.proofs.reduce.Tie as tie
 
-gcd-requires : tie.Need-gcd-requires
-gcd-requires c κs = search needs
+-- the divisor is not 0
+reduced-is : (c : tie.After-reduced) → arithmeticSays (c .reduced .result) ≡ within (lowest (over (withSign (c .before .args .negative) (c .before .args .p)) (c .before .args .q)))
+unfolding onFractions
+reduced-is c = c .reduced .ensures ∙ rw (ne-eqb (c .before .args .q) 0 (omega (arith, c .before .pre))) refl
 
-div-narrow : tie.Need-div-narrow
-div-narrow c = let a = c .before .args in omega (arith, c .gcd .ensures, gcd-positive (a .p) (a .q) (c .before .pre))
+-- it was refused
+refused : (a : Arithmetic) → (tagOf the-type a ≡ 1) ⊎ (tagOf the-type a ≡ 2) → (n : ℕ) × (arithmeticSays a ≡ refuses n)
+refused (Value f) (inl e) = absurd (omega (arith, e))
+refused (Value f) (inr e) = absurd (omega (arith, e))
+refused NotAFraction h = (4, refl)
+refused TooWide h = (12, refl)
 
-div-narrow-2 : tie.Need-div-narrow-2
-div-narrow-2 c = div-narrow c
+reduced-requires : tie.Need-reduced-requires
+reduced-requires c κs = search needs
 
-narrow-requires : tie.Need-narrow-requires
-narrow-requires c κs = search needs
+enum-known-a : tie.Need-enum-known-a
+enum-known-a c = search needs
 
 returns : tie.Need-returns
 returns c =
-    let a = c .before .before .args in
-    c .narrow .ensures ∙ ap narrowed (sym (lowest-by (a .negative) (a .p) (a .q) _ (c .before .gcd .ensures)))
+    let n = refused (c .before .reduced .result) (c .match .keys2) in
+    sym (narrowed-refuses _ (n .0) (sym (reduced-is (c .before)) ∙ n .1))
+
+returns-2 : tie.Need-returns-2
+returns-2 c =
+    let r = c .before .before .before in
+    sym (narrowed-gives _ _ (sym (reduced-is r) ∙ ap arithmeticSays (c .before .a .given .1)))
 
 pub reduce-spec : {M : Type 1} → statement M
-reduce-spec = tie.close (tie.spec gcd-requires div-narrow div-narrow-2 narrow-requires returns)
+reduce-spec = tie.close (tie.spec reduced-requires enum-known-a returns returns-2)

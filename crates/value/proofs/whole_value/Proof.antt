@@ -1,4 +1,4 @@
--- `value::whole_value` meets its contract: a whole number is in lowest terms.
+-- `value::whole_value` meets its contract: a whole number is a quotient by 1.
 -- Assumes nothing.
 use borrow.Author.Needs.{needs}
 use mathlib.Core.Path.{_∙_, sym}
@@ -9,11 +9,11 @@ use Rattle.value.proofs.whole_value.Tie as tie
 returns : tie.Need-returns
 returns c = λ w h. sym (whole-wide _ w _ h (c .if1 .taken))
 
-narrow-requires : tie.Need-narrow-requires
-narrow-requires c κs = search needs
+reduce-requires : tie.Need-reduce-requires
+reduce-requires c κs = search needs
 
 returns-2 : tie.Need-returns-2
-returns-2 c = λ w h. c .narrow .ensures ∙ sym (whole-narrow _ w _ h (c .before .if1 .left))
+returns-2 c = λ w h. c .reduce .ensures ∙ sym (whole-narrow _ w _ h (c .before .if1 .left))
 
 pub whole-value-spec : {M : Type 1} → statement M
-whole-value-spec = tie.close (tie.spec returns narrow-requires returns-2)
+whole-value-spec = tie.close (tie.spec returns reduce-requires returns-2)

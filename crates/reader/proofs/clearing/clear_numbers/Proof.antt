@@ -9,19 +9,19 @@ use Rattle.reader.proofs.clearing.clear_numbers.Tie as tie
 use Rattle.reader.proofs.Fill.{Cleared, cleared-none, cleared-more, cleared-all}
 
 abbrev Inv-loop : tie.InvT-loop
-Inv-loop table₀ i₀ i-end table i = Cleared 0 table₀ i table × (i-end ≡ length table₀)
+Inv-loop numbers₀ i₀ i-end numbers i = Cleared 0 numbers₀ i numbers × (i-end ≡ length numbers₀)
 
 abbrev μ-loop : tie.MeasureT-loop
-μ-loop table₀ i₀ i-end table i = i-end - i
+μ-loop numbers₀ i₀ i-end numbers i = i-end - i
 
 loop-holds : tie.Need-loop-holds Inv-loop μ-loop
 loop-holds c = (cleared-none 0 _, refl)
 
-mul-table : tie.Need-mul-table Inv-loop μ-loop
-mul-table c = search needs
+mul-numbers : tie.Need-mul-numbers Inv-loop μ-loop
+mul-numbers c = search needs
 
-slice-write-table : tie.Need-slice-write-table Inv-loop μ-loop
-slice-write-table c = omega (arith, c .before .loop .inv .0 .long, c .before .loop .inv .1, c .loop-test .taken)
+slice-write-numbers : tie.Need-slice-write-numbers Inv-loop μ-loop
+slice-write-numbers c = omega (arith, c .before .loop .inv .0 .long, c .before .loop .inv .1, c .loop-test .taken)
 
 add-i : tie.Need-add-i Inv-loop μ-loop
 add-i c = search needs
@@ -45,8 +45,8 @@ clear-numbers-spec =
     Inv-loop
     μ-loop
     loop-holds
-    mul-table
-    slice-write-table
+    mul-numbers
+    slice-write-numbers
     add-i
     loop-less
     loop-again

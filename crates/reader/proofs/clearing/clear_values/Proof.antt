@@ -10,19 +10,19 @@ use Rattle.reader.proofs.clearing.clear_values.Tie as tie
 use Rattle.reader.proofs.Fill.{Cleared, cleared-none, cleared-more, cleared-all}
 
 abbrev Inv-loop : tie.InvT-loop
-Inv-loop table₀ i₀ i-end table i = Cleared (pos 0) table₀ i table × (i-end ≡ length table₀)
+Inv-loop values₀ i₀ i-end values i = Cleared (pos 0) values₀ i values × (i-end ≡ length values₀)
 
 abbrev μ-loop : tie.MeasureT-loop
-μ-loop table₀ i₀ i-end table i = i-end - i
+μ-loop values₀ i₀ i-end values i = i-end - i
 
 loop-holds : tie.Need-loop-holds Inv-loop μ-loop
 loop-holds c = (cleared-none (pos 0) _, refl)
 
-mul-table : tie.Need-mul-table Inv-loop μ-loop
-mul-table c = search needs
+mul-values : tie.Need-mul-values Inv-loop μ-loop
+mul-values c = search needs
 
-slice-set-of-table : tie.Need-slice-set-of-table Inv-loop μ-loop
-slice-set-of-table c = search needs
+slice-set-of-values : tie.Need-slice-set-of-values Inv-loop μ-loop
+slice-set-of-values c = search needs
 
 add-i : tie.Need-add-i Inv-loop μ-loop
 add-i c = search needs
@@ -46,8 +46,8 @@ clear-values-spec =
     Inv-loop
     μ-loop
     loop-holds
-    mul-table
-    slice-set-of-table
+    mul-values
+    slice-set-of-values
     add-i
     loop-less
     loop-again

@@ -4,11 +4,10 @@ use mathlib.Core.Path.{_≡_, refl, sym, ap, _∙_, subst}
 use mathlib.Core.List.{List}
 use Prim.Native.Nat.{ℕ, _*_, _≤_}
 use lib.IntN.{ℤ}
-use lib.ListN.{length}
 use lib.Seq.{slice}
 use Rattle.grammar.specs.Tree.{Variables, Integers, Objective, Constraints}
 use Rattle.grammar.specs.Certificate.{version, variables, integers, objectiveSection, constraints}
-use Rattle.reader.specs.Steps.{state, Room, Went, Reads, any}
+use Rattle.reader.specs.Steps.{state, Room, Went, any}
 use Rattle.reader.specs.Leaves.{namesIn}
 use Rattle.reader.specs.Documents.{start, placesFrom, proofPart}
 use Rattle.reader.proofs.Laws.{next-is, stop-is, then-stop, then-stops, view-stop}

@@ -6,9 +6,8 @@ use Prim.Native.Nat.{ℕ, _+_, _*_}
 use lib.IntN.{ℤ}
 use lib.ListN.{length}
 use lib.Seq.{slice}
-use Rattle.text.specs.Bytes.{Bytes}
-use Rattle.grammar.specs.Tree.{Constraints, Relation, Solutions, Derivations}
-use Rattle.grammar.specs.Certificate.{rowNames, relation, solutionSection, derivationSection}
+use Rattle.grammar.specs.Tree.{Constraints, Relation, Solutions}
+use Rattle.grammar.specs.Certificate.{rowNames, relation, solutionSection}
 use Rattle.grammar.specs.Contents.{relation-lay, solutions-lay}
 use Rattle.reader.specs.Steps.{state, Went, any, the}
 use Rattle.reader.specs.Leaves.{namesIn}

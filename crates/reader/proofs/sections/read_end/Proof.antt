@@ -6,8 +6,7 @@ use Rattle.reader.proofs.sections.read_end.Statement.{statement}
 use Rattle.reader.proofs.sections.read_end.Tie as tie
 use Rattle.grammar.specs.Format.{value}
 use Rattle.reader.proofs.Laws.{view-any}
-use Rattle.reader.proofs.Alternatives.{or-mark}
-use Rattle.reader.proofs.SectionLaws.{or-reads}
+use Rattle.reader.proofs.Alternatives.{or-mark, or-reads}
 
 is-next-requires : tie.Need-is-next-requires
 is-next-requires c κs = search needs

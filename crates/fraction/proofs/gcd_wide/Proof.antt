@@ -1,12 +1,10 @@
--- `value::gcd` meets its contract. The loop's invariant: the pair's greatest common divisor stays the same. The measure is
--- y, which falls.
--- Assumes nothing.
+-- `fraction::gcd_wide` meets its contract. Invariant: the greatest common divisor of x and y is that of a and b; y falls.
 use mathlib.Core.Path.{_≡_, refl, sym, _∙_, ap}
-use native.Mathlib.Nat.{mod-lt}
 use native.Mathlib.Omega.{arith}
+use native.Mathlib.Nat.{mod-lt}
+use Rattle.fraction.proofs.gcd_wide.Statement.{statement}
+use Rattle.fraction.proofs.gcd_wide.Tie as tie
 use Rattle.integers.specs.Gcd.{gcd, gcd-zero, gcd-step}
-use Rattle.value.proofs.gcd.Statement.{statement}
-use Rattle.value.proofs.gcd.Tie as tie
 
 abbrev Inv-loop : tie.InvT-loop
 Inv-loop a b x₀ y₀ x y = gcd x y ≡ gcd a b
@@ -29,5 +27,5 @@ loop-again c = sym (gcd-step _ _ (omega arith)) ∙ c .before .loop .inv
 returns : tie.Need-returns Inv-loop μ-loop
 returns c = sym (gcd-zero _) ∙ ap (gcd (c .before .loop .x)) (sym (omega arith)) ∙ c .before .loop .inv
 
-pub gcd-spec : {M : Type 1} → statement M
-gcd-spec = tie.close (tie.spec Inv-loop μ-loop loop-holds rem-t loop-less loop-again returns)
+pub gcd-wide-spec : {M : Type 1} → statement M
+gcd-wide-spec = tie.close (tie.spec Inv-loop μ-loop loop-holds rem-t loop-less loop-again returns)
