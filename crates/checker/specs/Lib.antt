@@ -1,0 +1,3 @@
+-- What verifying promises, in reading order.
+pub mod Tables
+pub mod Held

@@ -1,0 +1,2 @@
+// Verify a certificate: reading, then checking.
+mod tables;
