@@ -55,6 +55,17 @@ pub record RowStands (tree : Tree) (index : List ℕ) (values : List ℤ) (rows 
   pub listed : Listed index values 256 (sideOf index rows objective r)
   pub terms-are : termsAt index values (sideOf index rows objective r) ≡ termsOf tree row
 
+-- it is some row
+abbrev pub RowIsThere : List ℕ → List ℤ → List ℕ → Pairs → ℕ → Type 0
+RowIsThere index values rows objective r = (tree : Tree) × ((row : Row) × RowStands tree index values rows objective r row)
+
+-- the rows below a number stand in the tables, each as the certificate's row with its index
+abbrev pub RowsStand : Tree → List ℕ → List ℤ → List ℕ → Pairs → ℕ → Type 0
+RowsStand tree index values rows objective count = (r : ℕ) → r < count → RowStands tree index values rows objective r (rowAt tree r)
+
+abbrev pub RowsAreThere : List ℕ → List ℤ → List ℕ → Pairs → ℕ → Type 0
+RowsAreThere index values rows objective count = (tree : Tree) × RowsStand tree index values rows objective count
+
 -- ---- reasons
 
 -- the number of a reason's word: "`asm` 0, `lin` 1, `rnd` 2, `uns` 3, `sol` 4"
@@ -147,6 +158,17 @@ noSolution = record { name = record { place = 0; bytes = [] }; values = record {
 abbrev pub solutionAt : Tree → ℕ → Solution
 solutionAt tree j = getD (tree .solutions .solutions) j noSolution
 
+-- the integer variables stand in the index table
+pub record IntegersStand (tree : Tree) (index : List ℕ) : Type 0 where
+  pub inside : 2 + tree .integers .count ≤ length index
+  pub counted : length (tree .integers .indices) ≡ tree .integers .count
+  pub count-is : getD index 1 0 ≡ tree .integers .count
+  pub are : (k : ℕ) → k < tree .integers .count → getD index (2 + k) 0 ≡ getD (tree .integers .indices) k 0
+  pub small : (k : ℕ) → k < tree .integers .count → getD index (2 + k) 0 < 256
+
+abbrev pub IntegersAreThere : List ℕ → Type 0
+IntegersAreThere index = (tree : Tree) × IntegersStand tree index
+
 -- the tables hold this tree, whose frame this is: its parts stand where checking looks for them
 pub record Stands (tree : Tree) (f : Frame) (index : List ℕ) (values : List ℤ) (rows : List ℕ) : Type 0 where
   pub in-range : TreeInRange tree
@@ -161,3 +183,7 @@ pub record Stands (tree : Tree) (f : Frame) (index : List ℕ) (values : List �
   pub derivations-stand : (k : ℕ) → k < f .derived → DerivationStands index values rows (f .given + k) (derivationAt tree k)
   pub solutions-stand : (j : ℕ) → j < f .solutions → SolutionStands index values rows j (solutionAt tree j)
   pub claim-stands : ClaimStands index values (f .claim) (f .ends) (tree .relation .claim)
+
+-- the tables hold some tree, whose frame this is
+abbrev pub Standing : Frame → List ℕ → List ℤ → List ℕ → Type 0
+Standing f index values rows = (tree : Tree) × Stands tree f index values rows

@@ -1,3 +1,4 @@
 -- What verifying promises, in reading order.
 pub mod Tables
 pub mod Held
+pub mod Answers

@@ -1,0 +1,50 @@
+-- What the answers of the code say, in the words of the rules.
+-- Assumes nothing.
+use mathlib.Core.Bool.{Bool, true, false}
+use mathlib.Core.Option.{Option, none, some}
+use mathlib.Core.List.{List}
+use Prim.Native.Nat.{ℕ}
+use Rattle.fraction.specs.declared.Fraction.{Fraction}
+use Rattle.grammar.specs.Refusals.{refusalNumber}
+use Rattle.grammar.specs.Tree.{End, infinite, finite}
+use Rattle.rules.specs.Result as result
+use Rattle.rules.specs.Result.{_andThen_}
+use Rattle.rules.specs.Rows as rows
+use Rattle.rules.specs.Combinations as rules
+use Rattle.constraint.specs.Meaning.{coefficientsOf, meant}
+use Rattle.checker.specs.declared.Check.{Check}
+use Rattle.checker.specs.declared.Check.the-variants as check
+use Rattle.checker.specs.declared.Verdict.{Verdict}
+use Rattle.checker.specs.declared.Verdict.the-variants as verdict
+use Rattle.checker.specs.declared.combination.Combination.{Combination}
+use Rattle.checker.specs.declared.combination.Added.{Added}
+use Rattle.checker.specs.declared.combination.Combined.{Combined}
+use Rattle.checker.specs.declared.combination.Suitable.{Suitable}
+
+-- a test of what has a name at this place
+abbrev pub checkSays : ℕ → Check → result.Verdict
+checkSays place check.Fine = result.fine
+checkSays place (check.Refused reason) = result.refused (refusalNumber reason) place
+
+-- a test of several, each with its own name
+abbrev pub verdictSays : Verdict → result.Verdict
+verdictSays verdict.Fine = result.fine
+verdictSays (verdict.Refused reason place) = result.refused (refusalNumber reason) place
+
+-- what was worked out by products and sums, at this place: it, where each is within the limit; else 12
+abbrev pub within : {A : Type 0} → ℕ → Bool → A → result.Result A
+within place true a = result.done a
+within place false a = result.refused 12 place
+
+abbrev pub addedSays : ℕ → Added → result.Result (ℕ → Fraction)
+addedSays place r = within place (r .fits) (coefficientsOf (r .coefficients))
+
+abbrev pub combinationOf : Combination → rules.Combination
+combinationOf c = record { coefficient = coefficientsOf (c .coefficients); right = c .right }
+
+abbrev pub combinedSays : ℕ → Combined → result.Result rules.Combination
+combinedSays place r = within place (r .fits) (combinationOf (r .combination))
+
+-- a suitable combination, at this place: it, where the check is fine; else why not
+abbrev pub suitableSays : ℕ → Suitable → result.Result rows.Constraint
+suitableSays place r = checkSays place (r .check) andThen result.done (meant (r .constraint))
