@@ -1,15 +1,18 @@
 -- What the answers of the code say, in the words of the rules.
 -- Assumes nothing.
-use mathlib.Core.Bool.{Bool, true, false}
+use mathlib.Core.Path.{_≡_}
+use mathlib.Core.Bool.{Bool, true, false, cond}
 use mathlib.Core.Option.{Option, none, some}
 use mathlib.Core.List.{List}
 use Prim.Native.Nat.{ℕ}
 use Rattle.fraction.specs.declared.Fraction.{Fraction}
 use Rattle.grammar.specs.Refusals.{refusalNumber}
-use Rattle.grammar.specs.Tree.{End, infinite, finite}
+use Rattle.grammar.specs.Tree.{Direction, End, infinite, finite, Tree}
 use Rattle.rules.specs.Result as result
 use Rattle.rules.specs.Result.{_andThen_}
+use Rattle.rules.specs.Tests.{someOf}
 use Rattle.rules.specs.Rows as rows
+use Rattle.rules.specs.Solutions.{holds, objectivesOf, towards, bestOf}
 use Rattle.rules.specs.Combinations as rules
 use Rattle.constraint.specs.Meaning.{coefficientsOf, meant}
 use Rattle.checker.specs.declared.Check.{Check}
@@ -19,7 +22,10 @@ use Rattle.checker.specs.declared.Verdict.the-variants as verdict
 use Rattle.checker.specs.declared.combination.Combination.{Combination}
 use Rattle.checker.specs.declared.combination.Added.{Added}
 use Rattle.checker.specs.declared.combination.Combined.{Combined}
-use Rattle.checker.specs.declared.combination.Suitable.{Suitable}
+use Rattle.checker.specs.declared.suitable.Suitable.{Suitable}
+use Rattle.checker.specs.declared.objectives.Best.{Best}
+use Rattle.checker.specs.declared.objectives.Objectives.{Objectives}
+use Rattle.checker.specs.declared.objectives.Objectives.the-variants as objectives
 
 -- a test of what has a name at this place
 abbrev pub checkSays : ℕ → Check → result.Verdict
@@ -48,3 +54,23 @@ combinedSays place r = within place (r .fits) (combinationOf (r .combination))
 -- a suitable combination, at this place: it, where the check is fine; else why not
 abbrev pub suitableSays : ℕ → Suitable → result.Result rows.Constraint
 suitableSays place r = checkSays place (r .check) andThen result.done (meant (r .constraint))
+
+-- the best objective, if there is any
+abbrev pub bestSays : Best → Option Fraction
+bestSays b = cond (b .any) (some (b .value)) none
+
+-- the best of a best one and one more
+abbrev pub nextBest : Direction → Option Fraction → Fraction → Option Fraction
+nextBest direction none o = some o
+nextBest direction (some best) o = some (cond (holds (towards direction) best o) best o)
+
+-- the objectives of a tree: their best, and whether one of them reaches a bound; or 12 at a place
+pub record Worked (tree : Tree) (bound : Fraction) (b : Best) : Type 0 where
+  pub values : List Fraction
+  pub are : objectivesOf tree ≡ result.done values
+  pub best-is : bestSays b ≡ bestOf (tree .objective .direction) values
+  pub reached-is : b .reached ≡ someOf (λ o. holds (towards (tree .objective .direction)) o bound) values
+
+abbrev pub ObjectivesSay : Tree → Fraction → Objectives → Type 0
+ObjectivesSay tree bound (objectives.Found b) = Worked tree bound b
+ObjectivesSay tree bound (objectives.TooWide place) = objectivesOf tree ≡ result.refused 12 place

@@ -8,7 +8,7 @@ use lib.IntN.{ℤ}
 use lib.ListN.{length, getD}
 use Rattle.text.specs.Bytes.{Bytes}
 use Rattle.fraction.specs.declared.Fraction.{Fraction}
-use Rattle.grammar.specs.Tree.{Direction, minimize, maximize, Row, End, infinite, finite, Claim, infeas, range, Solution, Reason, asm, lin, rnd, uns, sol, never, Derivation, Tree}
+use Rattle.grammar.specs.Tree.{Direction, minimize, maximize, Row, End, infinite, finite, Claim, infeas, range, Solution, Reason, asm, lin, rnd, uns, sol, Unsplit, never, Derivation, Tree}
 use Rattle.grammar.specs.Certificate.{senseCell}
 use Rattle.grammar.specs.Contents.{lastCell, endCell}
 use Rattle.grammar.specs.Ranges.{TreeInRange}
@@ -80,15 +80,22 @@ wordOf sol = 4
 abbrev pub multipliersOf : List ℕ → List ℕ → ℕ → Pairs
 multipliersOf index rows r = pairsFrom index (reasonAt index (cellOf rows r) + 1) (reasonValuesAt index (cellOf rows r) (numberOf rows r))
 
+-- i1 l1 i2 l2 of the reason of the row `own`, whose word stands in a cell
+abbrev pub UnsplitStands : List ℕ → ℕ → ℕ → Unsplit → Type 0
+UnsplitStands index own cell u =
+    (cell + 4 < length index)
+    × ((getD index (cell + 1) 0 ≡ u .i1) × (getD index (cell + 2) 0 ≡ u .l1) × (getD index (cell + 3) 0 ≡ u .i2) × (getD index (cell + 4) 0 ≡ u .l2))
+    × ((u .i1 < own) × (u .l1 < own) × (u .i2 < own) × (u .l2 < own))
+
+abbrev pub UnsplitIsThere : List ℕ → ℕ → ℕ → Type 0
+UnsplitIsThere index own cell = (u : Unsplit) × UnsplitStands index own cell u
+
 -- the reason of row r, whose word stands in a cell, and whose multipliers are these pairs
 abbrev pub ReasonStands : List ℕ → List ℤ → ℕ → ℕ → Pairs → Reason → Type 0
 ReasonStands index values own cell p asm = Unit {0}
 ReasonStands index values own cell p (lin ms) = (cell + 1 < length index) × Listed index values own p × (multipliersAt index values p ≡ ms .multipliers)
 ReasonStands index values own cell p (rnd ms) = (cell + 1 < length index) × Listed index values own p × (multipliersAt index values p ≡ ms .multipliers)
-ReasonStands index values own cell p (uns u) =
-    (cell + 4 < length index)
-    × ((getD index (cell + 1) 0 ≡ u .i1) × (getD index (cell + 2) 0 ≡ u .l1) × (getD index (cell + 3) 0 ≡ u .i2) × (getD index (cell + 4) 0 ≡ u .l2))
-    × ((u .i1 < own) × (u .l1 < own) × (u .i2 < own) × (u .l2 < own))
+ReasonStands index values own cell p (uns u) = UnsplitStands index own cell u
 ReasonStands index values own cell p sol = Unit {0}
 
 -- row r of the tables is derived so
@@ -111,6 +118,9 @@ pub record SolutionStands (index : List ℕ) (values : List ℤ) (rows : List �
   pub cell-inside : cellOf rows (1024 + j) < length index
   pub listed : Listed index values 256 (solutionPairs index rows j)
   pub terms-are : termsAt index values (solutionPairs index rows j) ≡ s .values .terms
+
+abbrev pub SolutionIsThere : List ℕ → List ℤ → List ℕ → ℕ → Type 0
+SolutionIsThere index values rows j = (s : Solution) × SolutionStands index values rows j s
 
 -- ---- the claim
 
@@ -187,3 +197,7 @@ pub record Stands (tree : Tree) (f : Frame) (index : List ℕ) (values : List �
 -- the tables hold some tree, whose frame this is
 abbrev pub Standing : Frame → List ℕ → List ℤ → List ℕ → Type 0
 Standing f index values rows = (tree : Tree) × Stands tree f index values rows
+
+-- the index table and the row table are those of some tree, whose frame this is
+abbrev pub Found : Frame → List ℕ → List ℕ → Type 0
+Found f index rows = (values : List ℤ) × Standing f index values rows

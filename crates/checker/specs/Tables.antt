@@ -39,6 +39,16 @@ pub record Listed (index : List ℕ) (values : List ℤ) (bound : ℕ) (p : Pair
   pub numbers : 2 * (p .number + p .count) ≤ length values
   pub small : (k : ℕ) → k < p .count → getD index (p .cell + k) 0 < bound
 
+-- the rows that stand in so many cells, from this one on
+unfoldable pub cellsAt : List ℕ → ℕ → ℕ → List ℕ
+cellsAt index cell zero = []
+cellsAt index cell (suc count) = getD index cell 0 ∷ cellsAt index (cell + 1) count
+
+-- they are in the table, each below the bound
+pub record NamedBelow (index : List ℕ) (bound cell count : ℕ) : Type 0 where
+  pub inside : cell + count ≤ length index
+  pub small : (k : ℕ) → k < count → getD index (cell + k) 0 < bound
+
 -- the pairs whose count stands in this cell
 abbrev pub pairsFrom : List ℕ → ℕ → ℕ → Pairs
 pairsFrom index cell n = record { cell = cell + 1; number = n; count = getD index cell 0 }

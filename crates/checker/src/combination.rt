@@ -1,26 +1,22 @@
 // Suitable linear combinations of rows.
 ghost use mathlib.Core.Path.{_≡_};
-ghost use mathlib.Core.Bool.{not};
-ghost use Prim.Native.Nat.{ℕ, _<_};
+ghost use Prim.Native.Nat.{ℕ};
 ghost use Rattle.fraction.specs.Fraction.{arithmeticSays};
-ghost use Rattle.grammar.specs.Tree.{Row, Multiplier, Tree};
-ghost use Rattle.rules.specs.Tests.{allOf};
+ghost use Rattle.grammar.specs.Tree.{Row, Tree};
 ghost use Rattle.rules.specs.Result.{bind, through};
-ghost use Rattle.rules.specs.Values.{isPositive, isNegative, within12, productAt, sumAt};
+ghost use Rattle.rules.specs.Values.{within12, productAt, sumAt};
 ghost use Rattle.rules.specs.Rows.{termsOf, rowAt};
-ghost use Rattle.rules.specs.Combinations.{signed, emptyCombination, addMultiple, nextCombination, combine as combineOf, suitableCombination};
+ghost use Rattle.rules.specs.Combinations.{emptyCombination, addMultiple, nextCombination, combine as combineOf};
 ghost use Rattle.constraint.specs.Meaning.{coefficientsOf};
-ghost use Rattle.constraint.specs.Signs.{signedNumber};
 ghost use Rattle.checker.specs.Tables.{termsAt, multipliersAt, Listed};
 ghost use Rattle.checker.specs.Held.{RowStands, RowIsThere, RowsStand, RowsAreThere};
-ghost use Rattle.checker.specs.Answers.{addedSays, combinationOf, combinedSays, suitableSays};
+ghost use Rattle.checker.specs.Answers.{addedSays, combinationOf, combinedSays};
 use crate::Check;
 use crate::tables;
 use crate::tables::Pairs;
 use constraint::Constraint;
 use fraction::Arithmetic;
 use fraction::Fraction;
-use grammar::Refusal;
 
 // A running combination: the coefficient of each variable, and the right side.
 pub(crate) struct Combination {
@@ -38,18 +34,6 @@ pub(crate) struct Added {
 pub(crate) struct Combined {
     pub(crate) fits: bool,
     pub(crate) combination: Combination,
-}
-
-// Whether no multiplier times its row's sign is negative, and whether none is positive.
-pub(crate) struct Signs {
-    pub(crate) nonnegative: bool,
-    pub(crate) nonpositive: bool,
-}
-
-// Whether multipliers give a suitable combination, and if so the constraint that it denotes.
-pub(crate) struct Suitable {
-    pub(crate) check: Check,
-    pub(crate) constraint: Constraint,
 }
 
 // A sum and a product more.

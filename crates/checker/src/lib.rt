@@ -2,6 +2,10 @@
 use grammar::Refusal;
 
 mod combination;
+mod derivations;
+mod objectives;
+mod solutions;
+mod suitable;
 mod tables;
 
 // What a test of one row or one solution answers: it has nothing to refuse, or a reason.

@@ -1,0 +1,122 @@
+// Suitable linear combinations: the sign rule, then the combination.
+ghost use mathlib.Core.Path.{_≡_};
+ghost use mathlib.Core.Bool.{not};
+ghost use Prim.Native.Nat.{ℕ};
+ghost use Rattle.grammar.specs.Tree.{Row, Tree};
+ghost use Rattle.rules.specs.Tests.{allOf};
+ghost use Rattle.rules.specs.Values.{isPositive, isNegative};
+ghost use Rattle.rules.specs.Combinations.{signed, suitableCombination};
+ghost use Rattle.constraint.specs.Signs.{signedNumber};
+ghost use Rattle.checker.specs.Tables.{multipliersAt, Listed};
+ghost use Rattle.checker.specs.Held.{RowStands, RowIsThere, RowsStand, RowsAreThere};
+ghost use Rattle.checker.specs.Answers.{suitableSays};
+use crate::Check;
+use crate::combination;
+use crate::tables;
+use crate::tables::Pairs;
+use constraint::Constraint;
+use fraction::Fraction;
+use grammar::Refusal;
+
+// Whether no multiplier times its row's sign is negative, and whether none is positive.
+pub(crate) struct Signs {
+    pub(crate) nonnegative: bool,
+    pub(crate) nonpositive: bool,
+}
+
+// Whether multipliers give a suitable combination, and if so the constraint that it denotes.
+pub(crate) struct Suitable {
+    pub(crate) check: Check,
+    pub(crate) constraint: Constraint,
+}
+
+// The numerator of a multiplier of row r times the row's sign.
+fn signed_at(
+    index: &[u16],
+    values: &[i32],
+    rows: &[u16],
+    objective: Pairs,
+    r: usize,
+    factor: Fraction,
+) -> i64
+    requires { ⌜ RowIsThere (now index) (now values) (now rows) objective r ⌝ }
+    ensures { λ n. ⌜ ((tree : Tree) (row : Row) → RowStands tree (now (index .entry)) (now (values .entry)) (now (rows .entry)) objective r row → n ≡ signedNumber (row .sense) factor) ⌝ }
+{
+    let cell = rows[4 * r + 2] as usize;
+    let sense = tables::sense_at(index[cell]);
+    constraint::signed_multiplier(sense, factor)
+}
+
+// The signs of the multipliers, which name rows below the row `own`.
+fn signs(
+    index: &[u16],
+    values: &[i32],
+    rows: &[u16],
+    objective: Pairs,
+    multipliers: Pairs,
+    own: usize,
+) -> Signs
+    requires { ⌜ RowsAreThere (now index) (now values) (now rows) objective own × Listed (now index) (now values) own multipliers ⌝ }
+    ensures nonnegative { λ s. ⌜ ((tree : Tree) → RowsStand tree (now (index .entry)) (now (values .entry)) (now (rows .entry)) objective own → s .nonnegative ≡ allOf (λ m. not (isNegative (signed tree m))) (multipliersAt (now (index .entry)) (now (values .entry)) multipliers)) ⌝ }
+    ensures nonpositive { λ s. ⌜ ((tree : Tree) → RowsStand tree (now (index .entry)) (now (values .entry)) (now (rows .entry)) objective own → s .nonpositive ≡ allOf (λ m. not (isPositive (signed tree m))) (multipliersAt (now (index .entry)) (now (values .entry)) multipliers)) ⌝ }
+{
+    let mut nonnegative = true;
+    let mut nonpositive = true;
+    let mut cell = multipliers.cell;
+    let mut number = multipliers.number;
+    let mut left = multipliers.count;
+    while 0 < left {
+        let r = index[cell] as usize;
+        let factor = tables::fraction_at(values, number);
+        let n = signed_at(index, values, rows, objective, r, factor);
+        nonnegative = nonnegative & (0 <= n);
+        nonpositive = nonpositive & (n <= 0);
+        cell += 1;
+        number += 1;
+        left -= 1;
+    }
+    Signs {
+        nonnegative: nonnegative,
+        nonpositive: nonpositive,
+    }
+}
+
+// The suitable combination of the rows that multipliers name, all below the row `own`: 13, then 12.
+pub(crate) fn suitable(
+    index: &[u16],
+    values: &[i32],
+    rows: &[u16],
+    objective: Pairs,
+    multipliers: Pairs,
+    own: usize,
+) -> Suitable
+    requires { ⌜ RowsAreThere (now index) (now values) (now rows) objective own × Listed (now index) (now values) own multipliers ⌝ }
+    ensures { λ s. ⌜ ((tree : Tree) → RowsStand tree (now (index .entry)) (now (values .entry)) (now (rows .entry)) objective own → (place : ℕ) → suitableSays place s ≡ suitableCombination tree place (multipliersAt (now (index .entry)) (now (values .entry)) multipliers)) ⌝ }
+{
+    let s = signs(index, values, rows, objective, multipliers, own);
+    let sense = constraint::sense_of(s.nonnegative, s.nonpositive);
+    let made = combination::combine(index, values, rows, objective, multipliers, own);
+    let combination = made.combination;
+    let coefficients = combination.coefficients;
+    let constraint = Constraint {
+        sense: sense,
+        coefficients: coefficients,
+        right: combination.right,
+    };
+    if !(s.nonnegative | s.nonpositive) {
+        return Suitable {
+            check: Check::Refused(Refusal::MultipliersNotSuitable),
+            constraint: constraint,
+        };
+    }
+    if !made.fits {
+        return Suitable {
+            check: Check::Refused(Refusal::ResultTooWide),
+            constraint: constraint,
+        };
+    }
+    Suitable {
+        check: Check::Fine,
+        constraint: constraint,
+    }
+}

@@ -1,0 +1,46 @@
+-- Tests of every variable, by a loop over those that have their coefficients in an array.
+-- Assumes nothing.
+use mathlib.Core.Path.{_≡_, refl, sym, _∙_, ap}
+use mathlib.Core.Bool.{Bool, true, false, _&&_}
+use mathlib.Core.List.{List, [], _∷_}
+use Prim.Native.Nat.{ℕ, zero, suc, _+_, _≤_, _<_, min}
+use native.Mathlib.Nat.{add-one, not-suc-le-zero, le-of-suc-le-suc}
+use native.Mathlib.Decide.{decLt}
+use native.Mathlib.Omega.{arith}
+use lib.ListN.{getD, length, List·getD-eq-default}
+use lib.IntN.{pos}
+use Rattle.fraction.specs.Laws.{zeroF}
+use Rattle.fraction.specs.declared.Fraction.{Fraction}
+use Rattle.rules.specs.Tests.{Decides, EveryBelow, everyBelow, fails, failed, decides-below}
+
+-- ---- a read within a list is the same whatever stands for those beyond it
+
+pub same-read : {A : Type 0} (xs : List A) (d e : A) {n : ℕ} → n < length xs → getD xs n d ≡ getD xs n e
+same-read [] d e h = absurd (not-suc-le-zero h)
+same-read (x ∷ xs) d e {n = zero} h = refl
+same-read (x ∷ xs) d e {n = suc n} h = same-read xs d e {n = n} (le-of-suc-le-suc h)
+
+-- ---- the loop
+
+module _ (test : ℕ → Bool) where
+  decides-each : (n : ℕ) → Decides (everyBelow n test) (EveryBelow n (λ v. test v ≡ true))
+  decides-each n = decides-below test (λ v. test v ≡ true) (λ v. ((λ e. e), λ e. e)) n
+
+  -- one more passes
+  pub every-on : (v : ℕ) → everyBelow v test ≡ true → test v ≡ true → everyBelow (v + 1) test ≡ true
+  every-on v e t = rw (add-one, e, t)
+
+  -- one fails
+  pub every-stop : (n v : ℕ) → v < n → test v ≡ false → everyBelow n test ≡ false
+  every-stop n v h t = fails (everyBelow n test) (decides-each n) (λ each. failed (decides-true (test v)) t (each v h))
+    where
+      decides-true : (b : Bool) → Decides b (b ≡ true)
+      decides-true b = ((λ e. e), λ e. e)
+
+  -- all in the array pass, and those beyond it do
+  pub every-end : (n v : ℕ) → min n 256 ≤ v → everyBelow v test ≡ true → ((u : ℕ) → 256 ≤ u → test u ≡ true) → everyBelow n test ≡ true
+  every-end n v h e beyond = decides-each n .1 (λ u k. go u k (decLt u v))
+    where
+      go : (u : ℕ) → u < n → Dec (u < v) → test u ≡ true
+      go u k (yes l) = decides-each v .0 e u l
+      go u k (no l) = beyond u (omega arith)

@@ -1,0 +1,64 @@
+-- Signed numbers as the machine tests them, and the answers of `fraction`.
+-- Assumes nothing.
+use mathlib.Core.Path.{_≡_, refl, sym, _∙_, ap}
+use mathlib.Core.Bool.{Bool, true, false}
+use Prim.Native.Nat.{ℕ, zero, suc, _+_, _^_, _≤_, _<_}
+use native.Mathlib.Omega.{arith}
+use borrow.Author.Tests.{eqb-true, eqb-false}
+use lib.Dec.{eqb}
+use lib.IntN.{ℤ, pos, negsuc, _+ℤ_}
+use lib.Signed.{mag}
+use mir.Syntax.{Width, w32, w64}
+use mir.Val.{SFits, toZ, ofZ}
+use mir.Facts.{toZ-ofZ}
+use Rattle.integers.proofs.Casts.{back-of, back64-of}
+use Rattle.fraction.specs.Outcome.{Outcome}
+use Rattle.fraction.specs.Fraction.{Order, comparisonSays}
+use Rattle.fraction.specs.declared.Comparison.{Comparison}
+use Rattle.rules.specs.Tests.{fails}
+use Rattle.rules.specs.Values.{sameZ, passes}
+use Rattle.rules.specs.ValuesLaws.{decides-same-integer}
+
+-- ---- numbers are the same exactly if their bits are
+
+pub same-bits : (w : Width) (x y : ℤ) → SFits w x → SFits w y → eqb (ofZ w x) (ofZ w y) ≡ sameZ x y
+same-bits w x y p q = go (eqb (ofZ w x) (ofZ w y)) refl
+  where
+    go : (t : Bool) → eqb (ofZ w x) (ofZ w y) ≡ t → t ≡ sameZ x y
+    go true e =
+        sym
+        (decides-same-integer x y .1
+        (sym (toZ-ofZ p) ∙ ap (toZ w) (eqb-true (ofZ w x) (ofZ w y) e) ∙ toZ-ofZ q))
+    go false e =
+        sym
+        (fails (sameZ x y) (decides-same-integer x y)
+        (λ h. eqb-false (ofZ w x) (ofZ w y) e (ap (ofZ w) h)))
+
+-- the same of 32 bits, where the bound alone is told, and a number that is written
+pub is-number : (x : ℤ) (n : ℕ) → mag x < 2147483648 → n < 2147483648 → eqb (ofZ w32 x) n ≡ sameZ x (pos n)
+is-number x n p q = same-bits w32 x (pos n) (record { sfits = p }) (record { sfits = q })
+
+-- ---- the next number, in 64 bits
+
+mag-next : (x : ℤ) → mag (x +ℤ pos 1) ≤ mag x + 1
+mag-next (pos n) = omega arith
+mag-next (negsuc zero) = omega arith
+mag-next (negsuc (suc n)) = omega arith
+
+pub next-fits : (x : ℤ) → mag x < 2147483648 → SFits w64 (x +ℤ pos 1)
+next-fits x p = record { sfits = omega (arith, mag-next x) }
+
+pub wide-fits : (x : ℤ) → mag x < 2147483648 → SFits w64 x
+wide-fits x p = record { sfits = omega arith }
+
+-- an i32 that was copied, and then widened
+pub copied : (x : ℤ) → mag x < 2147483648 → toZ w64 (ofZ w64 (toZ w32 (ofZ w32 x))) ≡ x
+copied x p = ap (λ (z : ℤ). toZ w64 (ofZ w64 z)) (back-of x p) ∙ toZ-ofZ (wide-fits x p)
+
+pub is-next : (x y : ℤ) → mag x < 2147483648 → mag y < 2147483648 → eqb (ofZ w64 y) (ofZ w64 (x +ℤ pos 1)) ≡ sameZ y (x +ℤ pos 1)
+is-next x y p q = same-bits w64 y (x +ℤ pos 1) (wide-fits y q) (next-fits x p)
+
+-- ---- a test of how two values compare
+
+pub passed : (test : Order → Bool) {r s : Comparison} {o : Outcome Order} → comparisonSays r ≡ o → r ≡ s → passes test (comparisonSays s) ≡ passes test o
+passed test e h = ap (λ (c : Comparison). passes test (comparisonSays c)) (sym h) ∙ ap (passes test) e
