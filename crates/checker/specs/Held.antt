@@ -4,6 +4,7 @@ use mathlib.Core.Path.{_≡_}
 use mathlib.Core.Bool.{Bool, true, false}
 use mathlib.Core.List.{List, []}
 use Prim.Native.Nat.{ℕ, _+_, _*_, _≤_, _<_}
+use lib.Dec.{eqb}
 use lib.IntN.{ℤ}
 use lib.ListN.{length, getD}
 use Rattle.text.specs.Bytes.{Bytes}
@@ -15,6 +16,7 @@ use Rattle.grammar.specs.Ranges.{TreeInRange}
 use Rattle.grammar.specs.Rows.{objectiveAt, claimAt, claimValuesAt}
 use Rattle.grammar.specs.Tables.{rowCells, indexTable, valueTable, rowTable}
 use Rattle.grammar.specs.Texts.{SpellsTree}
+use Rattle.reader.specs.declared.Places.{Places}
 use Rattle.rules.specs.Rows.{objective, termsOf, noRow, rowAt}
 use Rattle.checker.specs.Tables.{fractionAt, termsAt, multipliersAt, Listed, pairsFrom, sideAt, reasonAt, reasonValuesAt, afterWord, lastAt}
 use Rattle.checker.specs.declared.tables.Pairs.{Pairs}
@@ -24,6 +26,7 @@ use Rattle.checker.specs.declared.tables.Frame.{Frame}
 pub record Held (tree : Tree) (index : List ℕ) (values : List ℤ) (rows : List ℕ) : Type 0 where
   pub text : Bytes
   pub spelled : SpellsTree text tree
+  pub short : length text ≤ 32768
   pub index-is : index ≡ indexTable (length index) tree
   pub values-is : values ≡ valueTable (length values) tree
   pub rows-is : rows ≡ rowTable (length rows) tree
@@ -161,3 +164,20 @@ pub record Stands (tree : Tree) (f : Frame) (index : List ℕ) (values : List �
   pub derivations-stand : (k : ℕ) → k < f .derived → DerivationStands index values rows (f .given + k) (derivationAt tree k)
   pub solutions-stand : (j : ℕ) → j < f .solutions → SolutionStands index values rows j (solutionAt tree j)
   pub claim-stands : ClaimStands index values (f .claim) (f .ends) (tree .relation .claim)
+
+-- the cells from which a frame is read off the tables and the places that reading hands back: those before the given rows, which
+-- follow the c integers and the objective's terms, and those of the sections after them
+pub record PlacesStand (index : List ℕ) (p : Places) (f : Frame) : Type 0 where
+  pub given-inside : 4 + getD index 1 0 + f .objective .count < length index
+  pub solutions-inside : p .solutions < length index
+  pub derivations-inside : p .derivations < length index
+  pub variables-are : getD index 0 0 ≡ f .variables
+  pub direction-is : eqb (getD index (2 + getD index 1 0) 0) 1 ≡ f .maximize
+  pub objective-cell : 4 + getD index 1 0 ≡ f .objective .cell
+  pub objective-number : 0 ≡ f .objective .number
+  pub objective-count : getD index (3 + getD index 1 0) 0 ≡ f .objective .count
+  pub given-is : getD index (4 + getD index 1 0 + f .objective .count) 0 ≡ f .given
+  pub solutions-are : getD index (p .solutions) 0 ≡ f .solutions
+  pub derived-are : getD index (p .derivations) 0 ≡ f .derived
+  pub claim-is : p .claim ≡ f .claim
+  pub ends-are : p .ends ≡ f .ends
