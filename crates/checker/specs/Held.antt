@@ -165,6 +165,24 @@ pub record Stands (tree : Tree) (f : Frame) (index : List ℕ) (values : List �
   pub solutions-stand : (j : ℕ) → j < f .solutions → SolutionStands index values rows j (solutionAt tree j)
   pub claim-stands : ClaimStands index values (f .claim) (f .ends) (tree .relation .claim)
 
+-- ---- the frame, read off
+
+-- what the cells at the places that reading hands back give
+abbrev pub frameAt : List ℕ → Places → Frame
+frameAt index p =
+    let c = getD index 1 0 in
+    let count = getD index (3 + c) 0 in
+    record {
+      variables = getD index 0 0;
+      maximize = eqb (getD index (2 + c) 0) 1;
+      objective = record { cell = 4 + c; number = 0; count = count };
+      given = getD index (4 + c + count) 0;
+      solutions = getD index (p .solutions) 0;
+      derived = getD index (p .derivations) 0;
+      claim = p .claim;
+      ends = p .ends;
+    }
+
 -- the cells from which a frame is read off the tables and the places that reading hands back: those before the given rows, which
 -- follow the c integers and the objective's terms, and those of the sections after them
 pub record PlacesStand (index : List ℕ) (p : Places) (f : Frame) : Type 0 where

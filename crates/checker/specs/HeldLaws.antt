@@ -1,6 +1,6 @@
 -- The tables of a certificate that was read have its rows, reasons, solutions and claim where checking looks for them.
 -- Assumes nothing.
-use mathlib.Core.Path.{_≡_, refl, sym, _∙_, ap, ap₂, subst, subst₂}
+use mathlib.Core.Path.{_≡_, refl, sym, _∙_, ap, ap₂, subst}
 use mathlib.Core.Logic.{_⊎_, inl, inr}
 use mathlib.Core.List.{List, [], _∷_, _++_, map, map-id, map-map, map-append, List·Memᴰ·head, Memᴰ·append-right}
 use Prim.Native.Nat.{ℕ, _+_, _*_, _≤_, _<_}
@@ -10,10 +10,10 @@ use lib.IntN.{ℤ}
 use lib.ListN.{length, getD, length-map, length-append, List·getD-map}
 use Rattle.text.specs.Tokens.{Token}
 use Rattle.fraction.specs.declared.Fraction.{Fraction}
-use Rattle.grammar.specs.Tree.{Term, TermList, Direction, minimize, maximize, Row, End, infinite, finite, Claim, infeas, range, Derivation, Tree}
+use Rattle.grammar.specs.Tree.{Direction, minimize, maximize, Row, End, infinite, finite, Claim, infeas, range, Derivation, Tree}
 use Rattle.grammar.specs.Certificate.{directionCell, certificate}
 use Rattle.grammar.specs.Layout.{Mark, cells, values}
-use Rattle.grammar.specs.Contents.{termCells, termValues, sideCells, sideValues, rowIndexCells, rowValues, reasonCells, reasonValues, lastCell, derivationCells, derivationValues, endCell, endValues, claimCells, claimValues, integersCells, objectiveCells}
+use Rattle.grammar.specs.Contents.{termCells, termValues, rowIndexCells, rowValues, reasonCells, reasonValues, lastCell, derivationCells, derivationValues, endCell, endValues, claimCells, claimValues}
 use Rattle.grammar.specs.Fits.{FitsU16, fits}
 use Rattle.grammar.specs.Positions.{StandsAt, stands-get, stands-part, stands-inside}
 use Rattle.grammar.specs.Ranges.{rowsOf, SideInRange, ReasonInRange, TreeInRange, tree-in-range, cut-append, cut-map}
@@ -22,12 +22,14 @@ use Rattle.grammar.specs.Rows as grammar
 use Rattle.grammar.specs.Tables.{byTurns}
 use Rattle.grammar.specs.Tables as tables
 use Rattle.reader.specs.Documents.{placesOf}
-use Rattle.rules.specs.Rows.{termsOf, Entry, givenRow, derivedRow, rowOf, entries, entryAt, noRow, rowAt}
+use Rattle.reader.specs.declared.Places.{Places}
+use Rattle.rules.specs.Rows.{givenRow, derivedRow, rowOf, entries, entryAt, noRow, rowAt}
 use Rattle.rules.specs.Rows as rules
 use Rattle.rules.specs.RowsLaws as rules-laws
-use Rattle.checker.specs.Tables.{aTerm, ownTerms, reasonAt, reasonValuesAt, afterWord}
-use Rattle.checker.specs.Held.{Held, cellOf, numberOf, RowStands, DerivationStands, SolutionStands, EndStands, ClaimStands, isMaximize, frameOf, noDerivation, derivationAt, noSolution, solutionAt, Stands, PlacesStand}
-use Rattle.checker.specs.HeldPairs.{stands-one, each-get, get-map, stands-rest, stands-next, stands-here, PairsStand, Turns, number-inside, fraction-is, pairs-stand, pairs-from, side-size, own-terms, side-stands, word-is, after-word, reason-stands}
+use Rattle.checker.specs.Tables.{aTerm, reasonAt, reasonValuesAt, afterWord}
+use Rattle.checker.specs.Held.{Held, cellOf, numberOf, RowStands, DerivationStands, SolutionStands, EndStands, ClaimStands, isMaximize, frameOf, noDerivation, derivationAt, noSolution, solutionAt, Stands, frameAt, PlacesStand}
+use Rattle.checker.specs.declared.tables.Frame.{Frame}
+use Rattle.checker.specs.HeldPairs.{stands-one, each-get, get-map, stands-rest, stands-next, stands-here, term, PairsStand, Turns, number-inside, fraction-is, pairs-stand, pairs-from, side-size, own-terms, side-stands, word-is, after-word, reason-stands}
 
 -- ---- rows by their index
 
@@ -81,18 +83,39 @@ module _ {all : List Fraction} {values : List ℤ} (turns : Turns all values) wh
 
   claim-stands : (index : List ℕ) (cell n : ℕ) (c : Claim) → StandsAt index cell (claimCells c) → StandsAt all n (claimValues c) → ClaimStands index values cell n c
   claim-stands index cell n infeas c v = (omega (arith, stands-inside c), stands-here c 0)
-  claim-stands index cell n (range lower upper) c v =
-      (omega (arith, stands-inside c),
-       (stands-here c 0, stands-get c 1 0 (omega arith), stands-get c 2 0 (omega arith)),
-       (end-stands lower n (stands-part (endValues lower) (endValues upper) v),
-        subst (λ (k : ℕ). EndStands values (n + k) upper) (end-size lower)
-        (end-stands upper (n + length (endValues lower)) (stands-rest (endValues lower) (endValues upper) v))))
+  claim-stands index cell n (range lower upper) c v = (
+    omega (arith, stands-inside c),
+    (stands-here c 0, stands-get c 1 0 (omega arith), stands-get c 2 0 (omega arith)),
+    (
+      end-stands lower n (stands-part (endValues lower) (endValues upper) v),
+      subst (λ (k : ℕ). EndStands values (n + k) upper) (end-size lower)
+          (end-stands upper (n + length (endValues lower)) (stands-rest (endValues lower) (endValues upper) v)),
+    ),
+  )
 
 -- ---- the objective's direction
 
 direction-read : (d : Direction) → eqb (directionCell d) 1 ≡ isMaximize d
 direction-read minimize = refl
 direction-read maximize = refl
+
+-- ---- the frame
+
+pub frame-read : {index : List ℕ} {p : Places} {f : Frame} → PlacesStand index p f → frameAt index p ≡ f
+frame-read {index} {p} {f} h =
+    let given : getD index (4 + getD index 1 0 + getD index (3 + getD index 1 0) 0) 0 ≡ f .given =
+    ap (λ (n : ℕ). getD index (4 + getD index 1 0 + n) 0) (h .objective-count) ∙ h .given-is in
+    λ i.
+    record {
+      variables = h .variables-are i;
+      maximize = h .direction-is i;
+      objective = record { cell = h .objective-cell i; number = h .objective-number i; count = h .objective-count i };
+      given = given i;
+      solutions = h .solutions-are i;
+      derived = h .derived-are i;
+      claim = h .claim-is i;
+      ends = h .ends-are i;
+    }
 
 -- ---- in the tables of a certificate that was read
 
@@ -136,8 +159,8 @@ module _ {tree : Tree} {index : List ℕ} {table : List ℤ} {rows : List ℕ} (
   objective-stands : PairsStand aTerm index table 256 (frameOf tree .objective) (rules.objective tree)
   objective-stands =
       let s = sections-stand tree in
-      pairs-stand turns aTerm (λ (x : Term). x .variable) (λ (x : Term). x .coefficient) (λ x. refl) index (in-range .objective) (in-range .variables-most)
-      (objectiveAt tree + 2) 0 (index-stands (stands-rest (directionCell (tree .objective .direction) ∷ tree .objective .terms .count ∷ []) (map (λ (x : Term). x .variable) (tree .objective .terms .terms)) (s .objective)))
+      pairs-stand turns term index (in-range .objective) (in-range .variables-most)
+      (objectiveAt tree + 2) 0 (index-stands (stands-rest (directionCell (tree .objective .direction) ∷ tree .objective .terms .count ∷ []) (map (term .key) (tree .objective .terms .terms)) (s .objective)))
       (s .objective-values)
 
   -- a row
@@ -211,7 +234,7 @@ module _ {tree : Tree} {index : List ℕ} {table : List ℤ} {rows : List ℕ} (
       let s = stands-one (tree .solutions .solutions) j noSolution inside in
       let f = found (subst (λ (n : ℕ). Kept tree (1024 + n) (x .name) (termCells (x .values)) (termValues (x .values))) (s .from) (solution-kept tree (s .before) x (s .after) (s .cut))) in
       let ranged = each-get (tree .solutions .solutions) j noSolution inside (in-range .solutions) in
-      let p = pairs-from turns aTerm (λ (y : Term). y .variable) (λ (y : Term). y .coefficient) (λ y. refl) index ranged (in-range .variables-most) (cellOf rows (1024 + j)) (numberOf rows (1024 + j)) (f .cells-stand) (f .values-stand) in
+      let p = pairs-from turns term index ranged (in-range .variables-most) (cellOf rows (1024 + j)) (numberOf rows (1024 + j)) (f .cells-stand) (f .values-stand) in
       record { inside = f .inside; place-is = f .place-is; cell-inside = omega (arith, stands-inside (f .cells-stand)); listed = p .listed; terms-are = p .are }
 
   -- the whole
@@ -249,7 +272,7 @@ module _ {tree : Tree} {index : List ℕ} {table : List ℤ} {rows : List ℕ} (
       let integers : getD index 1 0 ≡ tree .integers .count = stands-here (index-stands (s .integers)) 0 in
       let counted = in-range .integers .counted in
       let terms = in-range .objective .counted in
-      let keys = length-map (tree .objective .terms .terms) (λ (x : Term). x .variable) in
+      let keys = length-map (tree .objective .terms .terms) (term .key) in
       let direction-at : objectiveAt tree ≡ 2 + getD index 1 0 = omega arith in
       let count-at : objectiveAt tree + 1 ≡ 3 + getD index 1 0 = omega arith in
       let given-at : constraintsAt tree ≡ 4 + getD index 1 0 + tree .objective .terms .count = omega arith in

@@ -1,12 +1,12 @@
 -- Lists of pairs, the sides of rows and the reasons of derivations, read off tables in which they stand.
 -- Assumes nothing.
 use mathlib.Core.Path.{_≡_, refl, sym, _∙_, ap, ap₂, subst}
-use mathlib.Core.Bool.{Bool, true, false, cond}
+use mathlib.Core.Bool.{Bool, false, cond}
 use mathlib.Core.List.{List, [], _∷_, _++_, map, append-assoc, List·Memᴰ·head, List·Memᴰ·tail}
 use Prim.Native.Nat.{ℕ, zero, suc, _+_, _*_, _≤_, _<_}
 use native.Mathlib.Nat.{add-zero, le-refl, not-suc-le-zero, le-of-suc-le-suc}
 use native.Mathlib.Omega.{arith}
-use borrow.Author.Tests.{eq-eqb, ne-eqb}
+use borrow.Author.Tests.{ne-eqb}
 use lib.Dec.{eqb}
 use lib.IntN.{ℤ, pos}
 use lib.ListN.{length, getD, take, drop, length-map, length-append}
@@ -14,7 +14,7 @@ use lib.Seq.{split-at, length-take-le}
 use Rattle.fraction.specs.Laws.{zeroF}
 use Rattle.fraction.specs.declared.Fraction.{Fraction}
 use Rattle.grammar.specs.Tree.{Tree, Term, TermList, Multiplier, MultiplierList, Side, obj, listed, Reason, asm, lin, rnd, uns, sol}
-use Rattle.grammar.specs.Contents.{termCells, termValues, sideCells, sideValues, multiplierCells, multiplierValues, reasonCells, reasonValues}
+use Rattle.grammar.specs.Contents.{sideCells, sideValues, multiplierCells, multiplierValues, reasonCells, reasonValues}
 use Rattle.grammar.specs.Fits.{by-turns-length}
 use Rattle.grammar.specs.Names.{Each}
 use Rattle.grammar.specs.Positions.{StandsAt, stands-get, stands-part, stands-inside}
@@ -22,7 +22,7 @@ use Rattle.grammar.specs.Ranges.{InRange, TermsInRange, SideInRange, ReasonInRa
 use Rattle.grammar.specs.Tables.{byTurns}
 use Rattle.rules.specs.Rows.{sideTerms}
 use Rattle.rules.specs.Rows as rules
-use Rattle.checker.specs.Tables.{fractionAt, listedAt, aTerm, aMultiplier, termsAt, multipliersAt, Listed, pairsFrom, sideAt, ownTerms, reasonAt, afterWord, lastAt}
+use Rattle.checker.specs.Tables.{fractionAt, listedAt, aTerm, aMultiplier, multipliersAt, Listed, pairsFrom, sideAt, ownTerms, afterWord}
 use Rattle.checker.specs.Held.{wordOf, ReasonStands}
 use Rattle.checker.specs.declared.tables.Pairs.{Pairs}
 
@@ -63,6 +63,19 @@ module _ {A : Type 0} where
 
 -- ---- lists of pairs
 
+-- what is an index and a value
+pub record Paired (A : Type 0) : Type 0 where
+  pub make : ℕ → Fraction → A
+  pub key : A → ℕ
+  pub val : A → Fraction
+  pub back : (x : A) → make (key x) (val x) ≡ x
+
+abbrev pub term : Paired Term
+term = record { make = aTerm; key = λ x. x .variable; val = λ x. x .coefficient; back = λ x. refl }
+
+abbrev pub multiplier : Paired Multiplier
+multiplier = record { make = aMultiplier; key = λ x. x .row; val = λ x. x .factor; back = λ x. refl }
+
 -- the elements of a list stand there as pairs
 pub record PairsStand {A : Type 0} (make : ℕ → Fraction → A) (index : List ℕ) (values : List ℤ) (bound : ℕ) (p : Pairs) (xs : List A) : Type 0 where
   pub listed : Listed index values bound p
@@ -82,41 +95,41 @@ module _ {all : List Fraction} {values : List ℤ} (turns : Turns all values) wh
       let w = turns .stand v in
       ap₂ (λ (a b : ℤ). record { num = a; den = b }) (stands-here w (pos 0)) (stands-here (stands-next w) (pos 0))
 
-  module _ {A : Type 0} (make : ℕ → Fraction → A) (key : A → ℕ) (val : A → Fraction) (back : (x : A) → make (key x) (val x) ≡ x) (index : List ℕ) where
-    listed-is : (xs : List A) (i n : ℕ) → StandsAt index i (map key xs) → StandsAt all n (map val xs) → listedAt make index values i n (length xs) ≡ xs
+  module _ {A : Type 0} (kind : Paired A) (index : List ℕ) where
+    listed-is : (xs : List A) (i n : ℕ) → StandsAt index i (map (kind .key) xs) → StandsAt all n (map (kind .val) xs) → listedAt (kind .make) index values i n (length xs) ≡ xs
     unfolding listedAt
     listed-is [] i n c v = refl
     listed-is (x ∷ xs) i n c v =
-        ap₂ _∷_ (ap₂ make (stands-here c 0) (fraction-is v) ∙ back x) (listed-is xs (i + 1) (n + 1) (stands-next c) (stands-next v))
+        ap₂ _∷_ (ap₂ (kind .make) (stands-here c 0) (fraction-is v) ∙ kind .back x) (listed-is xs (i + 1) (n + 1) (stands-next c) (stands-next v))
 
-    module _ {bound count limit : ℕ} {xs : List A} (range : InRange bound count key xs) (most : bound ≤ limit) where
+    module _ {bound count limit : ℕ} {xs : List A} (range : InRange bound count (kind .key) xs) (most : bound ≤ limit) where
       -- from the cell of the first index on
-      pub pairs-stand : (i n : ℕ) → StandsAt index i (map key xs) → StandsAt all n (map val xs)
-          → PairsStand make index values limit (record { cell = i; number = n; count = count }) xs
+      pub pairs-stand : (i n : ℕ) → StandsAt index i (map (kind .key) xs) → StandsAt all n (map (kind .val) xs)
+          → PairsStand (kind .make) index values limit (record { cell = i; number = n; count = count }) xs
       pairs-stand i n c v =
           let size = range .counted in
-          let keys = length-map xs key in
-          let vals = length-map xs val in
+          let keys = length-map xs (kind .key) in
+          let vals = length-map xs (kind .val) in
           record {
             listed =
                 record {
                   cells = omega (arith, stands-inside c);
-                  numbers = omega (arith, stands-inside (turns .stand v), by-turns-length (map val xs));
+                  numbers = omega (arith, stands-inside (turns .stand v), by-turns-length (map (kind .val) xs));
                   small = λ k le.
                       let inside : k < length xs = omega arith in
-                      let d = make 0 zeroF in
-                      let e = stands-get c k 0 (omega arith) ∙ get-map key xs k d 0 inside in
+                      let d = kind .make 0 zeroF in
+                      let e = stands-get c k 0 (omega arith) ∙ get-map (kind .key) xs k d 0 inside in
                       let b = each-get xs k d inside (range .below) in
                       omega arith;
                 };
-            are = ap (listedAt make index values i n) (sym size) ∙ listed-is xs i n c v;
+            are = ap (listedAt (kind .make) index values i n) (sym size) ∙ listed-is xs i n c v;
           }
 
       -- from the cell of the count on
-      pub pairs-from : (i n : ℕ) → StandsAt index i (count ∷ map key xs) → StandsAt all n (map val xs)
-          → PairsStand make index values limit (pairsFrom index i n) xs
+      pub pairs-from : (i n : ℕ) → StandsAt index i (count ∷ map (kind .key) xs) → StandsAt all n (map (kind .val) xs)
+          → PairsStand (kind .make) index values limit (pairsFrom index i n) xs
       pairs-from i n c v =
-          subst (λ (k : ℕ). PairsStand make index values limit (record { cell = i + 1; number = n; count = k }) xs) (sym (stands-here c 0))
+          subst (λ (k : ℕ). PairsStand (kind .make) index values limit (record { cell = i + 1; number = n; count = k }) xs) (sym (stands-here c 0))
           (pairs-stand (i + 1) n (stands-next c) v)
 
 -- ---- the side of a row
@@ -134,7 +147,7 @@ own-count {t = t} few range = ne-eqb (t .count) 65535 (λ e. let m = range .most
 
 pub side-size : (s : Side) → length (sideCells s) ≡ length (sideValues s) + 1
 side-size obj = refl
-side-size (listed t) = omega (arith, length-map (t .terms) (λ (x : Term). x .variable), length-map (t .terms) (λ (x : Term). x .coefficient))
+side-size (listed t) = omega (arith, length-map (t .terms) (term .key), length-map (t .terms) (term .val))
 
 module _ {n : ℕ} (few : n ≤ 256) {index : List ℕ} {cell sense : ℕ} where
   pub own-terms : (s : Side) → SideInRange n s → StandsAt index cell (sense ∷ sideCells s) → ownTerms index cell ≡ length (sideValues s)
@@ -143,7 +156,7 @@ module _ {n : ℕ} (few : n ≤ 256) {index : List ℕ} {cell sense : ℕ} where
   own-terms (listed t) range c =
       ap ownBy (stands-here (stands-next c) 0)
       ∙ ap (λ (b : Bool). cond b 0 (t .count)) (own-count few range)
-      ∙ sym (range .counted) ∙ sym (length-map (t .terms) (λ (x : Term). x .coefficient))
+      ∙ sym (range .counted) ∙ sym (length-map (t .terms) (term .val))
 
   pub side-stands : (tree : Tree) {objective : Pairs} {all : List Fraction} {values : List ℤ} {number : ℕ} {right : Fraction} → Turns all values
       → PairsStand aTerm index values 256 objective (rules.objective tree) → (s : Side) → SideInRange n s
@@ -157,7 +170,7 @@ module _ {n : ℕ} (few : n ≤ 256) {index : List ℕ} {cell sense : ℕ} where
       let own = pairsFrom index (cell + 1) (number + 1) in
       subst (λ (p : Pairs). PairsStand aTerm index values 256 p (t .terms))
       (sym (ap (sideBy objective own) (stands-here (stands-next c) 0) ∙ ap (λ (b : Bool). cond b objective own) (own-count few range)))
-      (pairs-from turns aTerm (λ (x : Term). x .variable) (λ (x : Term). x .coefficient) (λ x. refl) index range few (cell + 1) (number + 1) (stands-next c) (stands-next v))
+      (pairs-from turns term index range few (cell + 1) (number + 1) (stands-next c) (stands-next v))
 
 -- ---- the reason of a derivation
 
@@ -165,8 +178,8 @@ module _ {n : ℕ} (few : n ≤ 256) {index : List ℕ} {cell sense : ℕ} where
 after : ℕ → ℕ → ℕ
 after word count = cond (eqb word 3) 4 (cond (eqb word 1) (1 + count) (cond (eqb word 2) (1 + count) 0))
 
-multiplier-size : {own : ℕ} (m : MultiplierList) → InRange own (m .count) (λ (x : Multiplier). x .row) (m .multipliers) → length (multiplierCells m) ≡ 1 + m .count
-multiplier-size m range = omega (arith, range .counted, length-map (m .multipliers) (λ (x : Multiplier). x .row))
+multiplier-size : {own : ℕ} (m : MultiplierList) → InRange own (m .count) (multiplier .key) (m .multipliers) → length (multiplierCells m) ≡ 1 + m .count
+multiplier-size m range = omega (arith, range .counted, length-map (m .multipliers) (multiplier .key))
 
 module _ (index : List ℕ) (cell last : ℕ) where
   pub word-is : (q : Reason) → StandsAt index cell (reasonCells q ++ (last ∷ [])) → getD index cell 0 ≡ wordOf q
@@ -189,11 +202,11 @@ module _ (index : List ℕ) (cell last : ℕ) where
         by sol range c = refl
 
     module _ {all : List Fraction} {values : List ℤ} (turns : Turns all values) (n : ℕ) where
-      multipliers-stand : (m : MultiplierList) → InRange own (m .count) (λ (x : Multiplier). x .row) (m .multipliers)
+      multipliers-stand : (m : MultiplierList) → InRange own (m .count) (multiplier .key) (m .multipliers)
           → StandsAt index (cell + 1) (multiplierCells m ++ (last ∷ [])) → StandsAt all n (multiplierValues m)
           → (cell + 1 < length index) × Listed index values own (pairsFrom index (cell + 1) n) × (multipliersAt index values (pairsFrom index (cell + 1) n) ≡ m .multipliers)
       multipliers-stand m range c v =
-          let p = pairs-from turns aMultiplier (λ (x : Multiplier). x .row) (λ (x : Multiplier). x .factor) (λ x. refl) index range (le-refl own) (cell + 1) n (stands-part (multiplierCells m) (last ∷ []) c) v in
+          let p = pairs-from turns multiplier index range (le-refl own) (cell + 1) n (stands-part (multiplierCells m) (last ∷ []) c) v in
           (omega (arith, stands-inside c), p .listed, p .are)
 
       pub reason-stands : (q : Reason) → ReasonInRange own q → StandsAt index cell (reasonCells q ++ (last ∷ [])) → StandsAt all n (reasonValues q)
@@ -201,8 +214,9 @@ module _ (index : List ℕ) (cell last : ℕ) where
       reason-stands asm range c v = tt
       reason-stands (lin m) range c v = multipliers-stand m range (stands-next c) v
       reason-stands (rnd m) range c v = multipliers-stand m range (stands-next c) v
-      reason-stands (uns u) range c v =
-          (omega (arith, stands-inside c),
-           (stands-get c 1 0 (omega arith), stands-get c 2 0 (omega arith), stands-get c 3 0 (omega arith), stands-get c 4 0 (omega arith)),
-           range)
+      reason-stands (uns u) range c v = (
+        omega (arith, stands-inside c),
+        (stands-get c 1 0 (omega arith), stands-get c 2 0 (omega arith), stands-get c 3 0 (omega arith), stands-get c 4 0 (omega arith)),
+        range,
+      )
       reason-stands sol range c v = tt
