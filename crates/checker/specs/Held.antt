@@ -4,6 +4,7 @@ use mathlib.Core.Path.{_≡_}
 use mathlib.Core.Bool.{Bool, true, false}
 use mathlib.Core.List.{List, []}
 use Prim.Native.Nat.{ℕ, _+_, _*_, _≤_, _<_}
+use lib.Dec.{eqb}
 use lib.IntN.{ℤ}
 use lib.ListN.{length, getD}
 use Rattle.text.specs.Bytes.{Bytes}
@@ -15,6 +16,7 @@ use Rattle.grammar.specs.Ranges.{TreeInRange}
 use Rattle.grammar.specs.Rows.{objectiveAt, claimAt, claimValuesAt}
 use Rattle.grammar.specs.Tables.{rowCells, indexTable, valueTable, rowTable}
 use Rattle.grammar.specs.Texts.{SpellsTree}
+use Rattle.reader.specs.declared.Places.{Places}
 use Rattle.rules.specs.Rows.{objective, termsOf, noRow, rowAt}
 use Rattle.checker.specs.Tables.{fractionAt, termsAt, multipliersAt, Listed, pairsFrom, sideAt, reasonAt, reasonValuesAt, afterWord, lastAt}
 use Rattle.checker.specs.declared.tables.Pairs.{Pairs}
@@ -24,6 +26,7 @@ use Rattle.checker.specs.declared.tables.Frame.{Frame}
 pub record Held (tree : Tree) (index : List ℕ) (values : List ℤ) (rows : List ℕ) : Type 0 where
   pub text : Bytes
   pub spelled : SpellsTree text tree
+  pub short : length text ≤ 32768
   pub index-is : index ≡ indexTable (length index) tree
   pub values-is : values ≡ valueTable (length values) tree
   pub rows-is : rows ≡ rowTable (length rows) tree
@@ -201,3 +204,38 @@ Standing f index values rows = (tree : Tree) × Stands tree f index values rows
 -- the index table and the row table are those of some tree, whose frame this is
 abbrev pub Found : Frame → List ℕ → List ℕ → Type 0
 Found f index rows = (values : List ℤ) × Standing f index values rows
+
+-- ---- the frame, read off
+
+-- what the cells at the places that reading hands back give
+abbrev pub frameAt : List ℕ → Places → Frame
+frameAt index p =
+    let c = getD index 1 0 in
+    let count = getD index (3 + c) 0 in
+    record {
+      variables = getD index 0 0;
+      maximize = eqb (getD index (2 + c) 0) 1;
+      objective = record { cell = 4 + c; number = 0; count = count };
+      given = getD index (4 + c + count) 0;
+      solutions = getD index (p .solutions) 0;
+      derived = getD index (p .derivations) 0;
+      claim = p .claim;
+      ends = p .ends;
+    }
+
+-- the cells from which a frame is read off the tables and the places that reading hands back: those before the given rows, which
+-- follow the c integers and the objective's terms, and those of the sections after them
+pub record PlacesStand (index : List ℕ) (p : Places) (f : Frame) : Type 0 where
+  pub given-inside : 4 + getD index 1 0 + f .objective .count < length index
+  pub solutions-inside : p .solutions < length index
+  pub derivations-inside : p .derivations < length index
+  pub variables-are : getD index 0 0 ≡ f .variables
+  pub direction-is : eqb (getD index (2 + getD index 1 0) 0) 1 ≡ f .maximize
+  pub objective-cell : 4 + getD index 1 0 ≡ f .objective .cell
+  pub objective-number : 0 ≡ f .objective .number
+  pub objective-count : getD index (3 + getD index 1 0) 0 ≡ f .objective .count
+  pub given-is : getD index (4 + getD index 1 0 + f .objective .count) 0 ≡ f .given
+  pub solutions-are : getD index (p .solutions) 0 ≡ f .solutions
+  pub derived-are : getD index (p .derivations) 0 ≡ f .derived
+  pub claim-is : p .claim ≡ f .claim
+  pub ends-are : p .ends ≡ f .ends
