@@ -7,13 +7,14 @@ use mathlib.Core.List.{List}
 use Prim.Native.Nat.{ℕ}
 use Rattle.fraction.specs.declared.Fraction.{Fraction}
 use Rattle.grammar.specs.Refusals.{refusalNumber}
-use Rattle.grammar.specs.Tree.{Direction, End, infinite, finite, Tree}
+use Rattle.grammar.specs.Tree.{Direction, minimize, maximize, Sense, atMost, atLeast, End, infinite, finite, Claim, infeas, range, Tree}
 use Rattle.rules.specs.Result as result
 use Rattle.rules.specs.Result.{_andThen_}
 use Rattle.rules.specs.Tests.{someOf}
 use Rattle.rules.specs.Rows as rows
 use Rattle.rules.specs.Solutions.{holds, objectivesOf, towards, bestOf}
 use Rattle.rules.specs.Combinations as rules
+use Rattle.rules.specs.Claims as claims
 use Rattle.constraint.specs.Meaning.{coefficientsOf, meant}
 use Rattle.checker.specs.declared.Check.{Check}
 use Rattle.checker.specs.declared.Check.the-variants as check
@@ -26,6 +27,9 @@ use Rattle.checker.specs.declared.suitable.Suitable.{Suitable}
 use Rattle.checker.specs.declared.objectives.Best.{Best}
 use Rattle.checker.specs.declared.objectives.Objectives.{Objectives}
 use Rattle.checker.specs.declared.objectives.Objectives.the-variants as objectives
+use Rattle.checker.specs.declared.claims.Bound.{Bound}
+use Rattle.checker.specs.declared.claims.Asked.{Asked}
+use Rattle.checker.specs.declared.claims.Asked.the-variants as ask
 
 -- a test of what has a name at this place
 abbrev pub checkSays : ℕ → Check → result.Verdict
@@ -74,3 +78,21 @@ pub record Worked (tree : Tree) (bound : Fraction) (b : Best) : Type 0 where
 abbrev pub ObjectivesSay : Tree → Fraction → Objectives → Type 0
 ObjectivesSay tree bound (objectives.Found b) = Worked tree bound b
 ObjectivesSay tree bound (objectives.TooWide place) = objectivesOf tree ≡ result.refused 12 place
+
+-- an end of a claim: the upper or the lower one of a range; none of `infeas`
+abbrev pub boundSays : Bound → End
+boundSays b = cond (b .finite) (finite (b .value)) infinite
+
+abbrev pub endIn : Bool → Claim → End
+endIn upper infeas = infinite
+endIn upper (range low high) = cond upper high low
+
+-- what is asked of the last row: "dominates OBJ ≥ lb (min ..) or OBJ ≤ ub (max ..)"
+abbrev pub against : Direction → Sense
+against minimize = atLeast
+against maximize = atMost
+
+abbrev pub askedSays : Tree → Asked → claims.Asked
+askedSays tree ask.Nothing = claims.nothing
+askedSays tree ask.Absurdity = claims.absurdity
+askedSays tree (ask.Domination bound) = claims.domination (rows.objectiveWith tree (against (tree .objective .direction)) bound)

@@ -16,6 +16,7 @@ use Rattle.grammar.specs.Ranges.{TreeInRange}
 use Rattle.grammar.specs.Rows.{objectiveAt, claimAt, claimValuesAt}
 use Rattle.grammar.specs.Tables.{rowCells, indexTable, valueTable, rowTable}
 use Rattle.grammar.specs.Texts.{SpellsTree}
+use Rattle.reader.specs.Documents.{placesOf}
 use Rattle.reader.specs.declared.Places.{Places}
 use Rattle.rules.specs.Rows.{objective, termsOf, noRow, rowAt}
 use Rattle.checker.specs.Tables.{fractionAt, termsAt, multipliersAt, Listed, pairsFrom, sideAt, reasonAt, reasonValuesAt, afterWord, lastAt}
@@ -140,6 +141,13 @@ ClaimStands index values cell n (range lower upper) =
     × ((getD index cell 0 ≡ 1) × (getD index (cell + 1) 0 ≡ endCell lower) × (getD index (cell + 2) 0 ≡ endCell upper))
     × (EndStands values n lower × EndStands values (n + endCell lower) upper)
 
+-- some end, some claim
+abbrev pub EndIsThere : List ℕ → List ℤ → ℕ → ℕ → Type 0
+EndIsThere index values cell n = (cell < length index) × ((e : End) × (getD index cell 0 ≡ endCell e) × EndStands values n e)
+
+abbrev pub ClaimIsThere : List ℕ → List ℤ → ℕ → ℕ → Type 0
+ClaimIsThere index values cell n = (c : Claim) × ClaimStands index values cell n c
+
 -- ---- the whole
 
 abbrev pub isMaximize : Direction → Bool
@@ -188,10 +196,7 @@ pub record Stands (tree : Tree) (f : Frame) (index : List ℕ) (values : List �
   pub frame-is : f ≡ frameOf tree
   pub objective-listed : Listed index values 256 (f .objective)
   pub objective-is : termsAt index values (f .objective) ≡ objective tree
-  pub integers-inside : 2 + tree .integers .count ≤ length index
-  pub integers-count : getD index 1 0 ≡ tree .integers .count
-  pub integers-are : (k : ℕ) → k < tree .integers .count → getD index (2 + k) 0 ≡ getD (tree .integers .indices) k 0
-  pub integers-small : (k : ℕ) → k < tree .integers .count → getD index (2 + k) 0 < 256
+  pub integers : IntegersStand tree index
   pub rows-stand : (r : ℕ) → r < f .given + f .derived → RowStands tree index values rows (f .objective) r (rowAt tree r)
   pub derivations-stand : (k : ℕ) → k < f .derived → DerivationStands index values rows (f .given + k) (derivationAt tree k)
   pub solutions-stand : (j : ℕ) → j < f .solutions → SolutionStands index values rows j (solutionAt tree j)
@@ -239,3 +244,10 @@ pub record PlacesStand (index : List ℕ) (p : Places) (f : Frame) : Type 0 wher
   pub derived-are : getD index (p .derivations) 0 ≡ f .derived
   pub claim-is : p .claim ≡ f .claim
   pub ends-are : p .ends ≡ f .ends
+
+abbrev pub FrameIsThere : List ℕ → Places → Type 0
+FrameIsThere index p = (f : Frame) × PlacesStand index p f
+
+-- the tables hold some tree, and its sections stand at these places
+abbrev pub CertificateIsThere : List ℕ → List ℤ → List ℕ → Places → Type 0
+CertificateIsThere index values rows places = (tree : Tree) × Held tree index values rows × (places ≡ placesOf tree)

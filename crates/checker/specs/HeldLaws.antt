@@ -250,13 +250,17 @@ module _ {tree : Tree} {index : List ℕ} {table : List ℤ} {rows : List ℕ} (
         frame-is = refl;
         objective-listed = objective-stands .listed;
         objective-is = objective-stands .are;
-        integers-inside = omega (arith, stands-inside i);
-        integers-count = stands-here i 0;
-        integers-are = are;
-        integers-small = λ k le.
-            let e = are k le in
-            let b = each-get (tree .integers .indices) k 0 (omega arith) (in-range .integers .below) in
-            omega (arith, in-range .variables-most);
+        integers =
+            record {
+              inside = omega (arith, stands-inside i);
+              counted = size;
+              count-is = stands-here i 0;
+              are = are;
+              small = λ k le.
+                  let e = are k le in
+                  let b = each-get (tree .integers .indices) k 0 (omega arith) (in-range .integers .below) in
+                  omega (arith, in-range .variables-most);
+            };
         rows-stand = rows-stand;
         derivations-stand = derivations-stand;
         solutions-stand = solutions-stand;

@@ -1,6 +1,7 @@
--- What verifying promises, in reading order.
+-- What verifying promises, in reading order: the promise, and what its parts promise.
 pub mod Tables
 pub mod Held
 pub mod HeldPairs
 pub mod HeldLaws
 pub mod Answers
+pub mod Promise

@@ -1,6 +1,11 @@
 // Verify a certificate: reading, then checking.
+ghost use Rattle.checker.specs.Promise.{CertificateVerified};
 use grammar::Refusal;
+use reader::Reading;
 
+mod assumptions;
+mod check;
+mod claims;
 mod combination;
 mod derivations;
 mod objectives;
@@ -14,8 +19,36 @@ pub(crate) enum Check {
     Refused(Refusal),
 }
 
-// What a test of several answers: nothing to refuse, or the first reason and the place of the name it is refused at.
+// What a test of several answers: nothing to refuse, or the first reason and the place of the name that it is refused at.
 pub(crate) enum Verdict {
     Fine,
     Refused(Refusal, usize),
+}
+
+// What verifying a certificate answers: it is verified; or it was refused, for a reason and at a line.
+pub enum Verification {
+    Verified,
+    Refused(Refusal, usize),
+}
+
+// Reads a text into the tables, whatever stood in them, and checks what was read. The tables are left as reading leaves them.
+pub fn verify(
+    text: &[u8],
+    index: &mut [u16],
+    values: &mut [i32],
+    rows: &mut [u16],
+) -> Verification
+    ensures { λ r. ⌜ CertificateVerified (now (text .entry)) (now (index .entry)) (now (values .entry)) (now (rows .entry)) (now (index .exit)) (now (values .exit)) (now (rows .exit)) r ⌝ }
+{
+    match reader::read_certificate(text, index, values, rows) {
+        Reading::Refused(reason, line) => Verification::Refused(reason, line),
+        Reading::Taken(places) => {
+            match check::check(index, values, rows, places) {
+                Verdict::Fine => Verification::Verified,
+                Verdict::Refused(reason, place) => {
+                    Verification::Refused(reason, text::line_of(text, place))
+                }
+            }
+        }
+    }
 }

@@ -1,0 +1,98 @@
+// Assumption sets: one bit for each `asm` row.
+ghost use mathlib.Core.Path.{_≡_};
+ghost use mathlib.Core.List.{List};
+ghost use Prim.Native.Nat.{ℕ, _+_, _<_};
+ghost use lib.IntN.{ℤ};
+ghost use lib.ListN.{getD};
+ghost use Rattle.grammar.specs.Tree.{Tree};
+ghost use Rattle.rules.specs.Tests.{Decides};
+ghost use Rattle.rules.specs.Assumptions.{assumptionsOf, isEmpty};
+ghost use Rattle.sets.specs.Sets.{bit};
+ghost use Rattle.checker.specs.Held.{Stands, Found};
+use crate::derivations;
+use crate::tables;
+use crate::tables::Frame;
+
+// The union of the sets of the rows that stand in so many cells.
+fn union_of(index: &[u16], all: &[u64; 1024], cell: usize, count: usize) -> u64
+    requires { ⌜ NamedBelow (now index) 1024 cell count ⌝ }
+    ensures { λ u. ⌜ ((k : ℕ) → bit u k ≡ unionBit (now (all .entry)) k (cellsAt (now (index .entry)) cell count)) ⌝ }
+{
+    let mut union = 0;
+    let mut at = cell;
+    let mut left = count;
+    while 0 < left {
+        let r = index[at] as usize;
+        union = sets::union(union, all[r]);
+        at += 1;
+        left -= 1;
+    }
+    union
+}
+
+// A set without row l: only an assumption can be in it.
+fn without_row(
+    index: &[u16],
+    rows: &[u16],
+    frame: Frame,
+    all: &[u64; 1024],
+    set: u64,
+    l: usize,
+) -> u64
+{
+    if derivations::is_assumption(index, rows, frame, l) {
+        sets::without(set, all[l])
+    } else {
+        set
+    }
+}
+
+// The set of derivation k, before which so many are assumptions.
+fn set_of(
+    index: &[u16],
+    rows: &[u16],
+    frame: Frame,
+    all: &[u64; 1024],
+    k: usize,
+    assumed: usize,
+) -> u64
+{
+    let cell = tables::reason_at(index, rows, frame.given + k);
+    let word = index[cell];
+    if word == 0 {
+        return sets::single(assumed);
+    }
+    if word == 3 {
+        let first = index[cell + 1] as usize;
+        let second = index[cell + 3] as usize;
+        let a = without_row(index, rows, frame, all, all[first], index[cell + 2] as usize);
+        let b = without_row(index, rows, frame, all, all[second], index[cell + 4] as usize);
+        return sets::union(a, b);
+    }
+    if word == 4 {
+        return 0;
+    }
+    let count = index[cell + 1] as usize;
+    union_of(index, all, cell + 2, count)
+}
+
+// "1,024 assumption sets, all empty at the start": the set of each row.
+pub(crate) fn sets_of(index: &[u16], rows: &[u16], frame: Frame) -> [u64; 1024]
+    requires { ⌜ Found frame (now index) (now rows) ⌝ }
+    ensures { λ s. ⌜ ((tree : Tree) (values : List ℤ) → Stands tree frame (now (index .entry)) values (now (rows .entry)) → (r : ℕ) → r < frame .given + frame .derived → Decides (isEmpty (assumptionsOf tree r)) ((k : ℕ) → bit (getD s r 0) k ≡ 0)) ⌝ }
+{
+    let given = frame.given;
+    let derived = frame.derived;
+    let mut all = [0u64; 1024];
+    let mut assumed = 0;
+    let mut k = 0;
+    while k < derived {
+        let set = set_of(index, rows, frame, &all, k, assumed);
+        all[given + k] = set;
+        if derivations::is_assumption(index, rows, frame, given + k) {
+            assumed += 1;
+        }
+        k += 1;
+    }
+    all
+}
