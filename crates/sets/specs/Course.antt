@@ -1,0 +1,391 @@
+-- The sets of a whole certificate as masks, derivation after derivation: "1,024 assumption sets, all empty at the start". One
+-- law for the start, one for each reason, and one for the end.
+-- Assumes nothing.
+use mathlib.Core.Path.{_≡_, refl, sym, _∙_, ap, subst, subst₂}
+use mathlib.Core.Bool.{Bool, true, false, cond, _&&_}
+use mathlib.Core.List.{List, [], _∷_, _++_, map, append-nil}
+use mathlib.Core.Logic.{_↔_, _⊎_, inl, inr, ⊎-elim}
+use Prim.Native.Nat.{ℕ, zero, suc, _+_, _-_, _<_, _≤_, max}
+use native.Mathlib.Nat.{add-zero, zero-add}
+use native.Mathlib.Omega.{arith}
+use borrow.Author.Tests.{eqb-true, eqb-false, ltb-true, ltb-false}
+use lib.Dec.{eqb, ltb}
+use lib.ListN.{length, getD, set, take, drop, replicate, length-append, length-set, length-replicate, getD-replicate, length-map, List·getD-map, List·getD-append, List·getD-eq-default}
+use lib.Seq.{take-all, length-take-le, take-suc, split-at, getD-at, getD-set-same, getD-set-other}
+use Rattle.grammar.specs.Tree.{Row, Multiplier, MultiplierList, Unsplit, Reason, asm, lin, rnd, uns, sol, Derivation, Tree}
+use Rattle.grammar.specs.Certificate.{isAssumption, assumptions}
+use Rattle.grammar.specs.Ranges.{ReasonInRange, TreeInRange}
+use Rattle.rules.specs.Tests.{In, Decides}
+use Rattle.rules.specs.Rows.{Entry, givenRow, derivedRow, noRow, entryAt}
+use Rattle.rules.specs.RowsLaws.{entry-given, entry-derived}
+use Rattle.rules.specs.Splits.{IsAssumption}
+use Rattle.rules.specs.Assumptions.{HasReason, without, unionOf, setFor, setsFrom, setsOf, assumptionsOf, isEmpty}
+use Rattle.rules.specs.AssumptionsLaws.{in-union}
+use Rattle.sets.specs.Sets.{bit, one}
+use Rattle.sets.specs.SetsLaws.{bit-lt, bit-zero}
+use Rattle.sets.specs.Represents.{either-bit, Represents, Increasing, represents-none, represents-more, represents-single, represents-union, represents-without, represents-empty, increasing-none, increasing-more}
+
+-- ---- all masks at once
+
+-- each mask represents the set of the same row
+pub record Shows (asms masks : List ℕ) (sets : List (List ℕ)) : Type 0 where
+  pub each : (i : ℕ) → Represents asms (getD masks i 0) (getD sets i [])
+
+getD-other : {A : Type 0} (xs : List A) (x d : A) (i : ℕ) → (i ≡ length xs → ⊥) → getD (xs ++ (x ∷ [])) i d ≡ getD xs i d
+getD-other xs x d i ne = go (ltb i (length xs)) refl
+  where
+    go : (t : Bool) → ltb i (length xs) ≡ t → getD (xs ++ (x ∷ [])) i d ≡ getD xs i d
+    go true e = List·getD-append xs (x ∷ []) d i (ltb-true i (length xs) e)
+    go false e =
+        let h = ltb-false i (length xs) e in
+        List·getD-eq-default (xs ++ (x ∷ [])) d (omega (arith, length-append xs (x ∷ []))) ∙ sym (List·getD-eq-default xs d h)
+
+shows-next : {asms masks : List ℕ} {sets : List (List ℕ)} (own r : ℕ) (s : List ℕ) → own ≡ length sets → own < length masks → Shows asms masks sets → Represents asms r s
+    → Shows asms (set masks own r) (sets ++ (s ∷ []))
+shows-next {asms} {masks} {sets} own r s e h p q = record { each = λ i. go i (eqb i own) refl }
+  where
+    go : (i : ℕ) (t : Bool) → eqb i own ≡ t → Represents asms (getD (set masks own r) i 0) (getD (sets ++ (s ∷ [])) i [])
+    go i true f = rw (eqb-true i own f, getD-set-same masks own r 0 h, getD-at sets s [] [] own (sym e)) q
+    go i false f =
+        let ne = eqb-false i own f in
+        rw (getD-set-other masks own i r 0 ne, getD-other sets s [] i (λ z. ne (z ∙ sym e))) (p .each i)
+
+shows-more : {asms masks : List ℕ} {sets : List (List ℕ)} (b : ℕ) → Shows asms masks sets → Shows (asms ++ (b ∷ [])) masks sets
+shows-more b p = record { each = λ i. represents-more b (p .each i) }
+
+-- ---- "`lin`, `rnd` the union"
+
+-- 1 where j is in one of the masks of the rows that multipliers name, else 0
+abbrev pub unionBit : List ℕ → List Multiplier → ℕ → ℕ
+unionBit masks [] j = 0
+unionBit masks (m ∷ ms) j = max (bit (getD masks (m .row) 0) j) (unionBit masks ms j)
+
+union-lt : (masks : List ℕ) (ms : List Multiplier) (j : ℕ) → unionBit masks ms j < 2
+union-lt masks [] j = omega arith
+union-lt masks (m ∷ ms) j = omega (arith, union-lt masks ms j, bit-lt (getD masks (m .row) 0) j)
+
+union-bit : (masks : List ℕ) (ms : List Multiplier) (j : ℕ) → (unionBit masks ms j ≡ 1) ↔ ((m : Multiplier) × In m ms × (bit (getD masks (m .row) 0) j ≡ 1))
+union-bit masks [] j = ((λ e. absurd (omega arith)), λ h. absurd (h .1))
+union-bit masks (m ∷ ms) j =
+    let r = union-bit masks ms j in
+    let small = union-lt masks ms j in
+    let first = either-bit (getD masks (m .row) 0) j in (
+      (λ e. ⊎-elim (λ z. let q = r .0 (omega (arith, e, z)) in (q .0, inr (q .1), q .2)) (λ o. (m, inl refl, o)) first),
+      λ h. ⊎-elim (λ e. let o = ap (λ (n : Multiplier). bit (getD masks (n .row) 0) j) e ∙ h .2 in omega (arith, o, small)) (λ k. omega (arith, r .1 (h .0, k, h .2), bit-lt (getD masks (m .row) 0) j)) (h .1),
+    )
+
+represents-named : {asms masks : List ℕ} {sets : List (List ℕ)} → Shows asms masks sets → (ms : List Multiplier) (r : ℕ) → ((j : ℕ) → bit r j ≡ unionBit masks ms j) → Represents asms r (unionOf sets ms)
+represents-named {asms} {masks} {sets} p ms r bits =
+    record {
+      listed = λ a h.
+          let m = in-union a sets ms .0 h in
+          let z = p .each (m .0 .row) .listed a (m .2) in
+          (z .0, z .1, z .2, bits (z .0) ∙ union-bit masks ms (z .0) .1 (m .0, m .1, z .3));
+      marked = λ k h.
+          let m = union-bit masks ms k .0 (sym (bits k) ∙ h) in
+          let z = p .each (m .0 .row) .marked k (m .2) in
+          (z .0, in-union (getD asms k 0) sets ms .1 (m .0, m .1, z .1));
+    }
+
+-- a loop over the multipliers: the masks so far, and those of the rows that are left
+pub union-on : (masks : List ℕ) (acc r : ℕ) (m : Multiplier) (ms : List Multiplier) → ((j : ℕ) → bit r j ≡ max (bit acc j) (bit (getD masks (m .row) 0) j))
+    → (j : ℕ) → max (bit r j) (unionBit masks ms j) ≡ max (bit acc j) (unionBit masks (m ∷ ms) j)
+union-on masks acc r m ms bits j = omega (arith, bits j)
+
+-- ---- the asm rows
+
+-- those among derivations whose rows are numbered from own on
+abbrev pub asmsOf : ℕ → List Derivation → List ℕ
+asmsOf own [] = []
+asmsOf own (d ∷ ds) = let later = asmsOf (own + 1) ds in cond (isAssumption (d .reason)) (own ∷ later) later
+
+-- how many they are is what the grammar counts
+asms-length : (own : ℕ) (ds : List Derivation) → length (asmsOf own ds) ≡ assumptions ds
+asms-length own [] = refl
+asms-length own (d ∷ ds) = go (isAssumption (d .reason)) (asms-length (own + 1) ds)
+  where
+    go : (t : Bool) → length (asmsOf (own + 1) ds) ≡ assumptions ds → length (cond t (own ∷ asmsOf (own + 1) ds) (asmsOf (own + 1) ds)) ≡ cond t (suc (assumptions ds)) (assumptions ds)
+    go true e = ap suc e
+    go false e = e
+
+-- of one derivation more
+asms-last : (own : ℕ) (ds : List Derivation) (d : Derivation) → asmsOf own (ds ++ (d ∷ [])) ≡ asmsOf own ds ++ asmsOf (own + length ds) (d ∷ [])
+asms-last own [] d = ap (λ (n : ℕ). asmsOf n (d ∷ [])) (sym (add-zero own))
+asms-last own (x ∷ ds) d = go (isAssumption (x .reason)) (asms-last (own + 1) ds d ∙ ap (λ (n : ℕ). asmsOf (own + 1) ds ++ asmsOf n (d ∷ [])) (omega arith))
+  where
+    here : List ℕ
+    here = asmsOf (own + 1) ds
+
+    last : List ℕ
+    last = asmsOf (own + suc (length ds)) (d ∷ [])
+
+    go : (t : Bool) → asmsOf (own + 1) (ds ++ (d ∷ [])) ≡ here ++ last → cond t (own ∷ asmsOf (own + 1) (ds ++ (d ∷ []))) (asmsOf (own + 1) (ds ++ (d ∷ []))) ≡ cond t (own ∷ here) here ++ last
+    go true e = ap (λ (l : List ℕ). own ∷ l) e
+    go false e = e
+
+assumptions-append : (xs ys : List Derivation) → assumptions (xs ++ ys) ≡ assumptions xs + assumptions ys
+assumptions-append [] ys = sym (zero-add (assumptions ys))
+assumptions-append (x ∷ xs) ys = go (isAssumption (x .reason)) (assumptions-append xs ys)
+  where
+    go : (t : Bool) → assumptions (xs ++ ys) ≡ assumptions xs + assumptions ys → cond t (suc (assumptions (xs ++ ys))) (assumptions (xs ++ ys)) ≡ cond t (suc (assumptions xs)) (assumptions xs) + assumptions ys
+    go true e = omega (arith, e)
+    go false e = e
+
+-- ---- the sets of rules
+
+sets-last : (sets : List (List ℕ)) (ds : List Derivation) (d : Derivation)
+    → setsFrom sets (ds ++ (d ∷ [])) ≡ setsFrom sets ds ++ (setFor (setsFrom sets ds) (length (setsFrom sets ds)) (d .reason) ∷ [])
+sets-last sets [] d = refl
+sets-last sets (x ∷ ds) d = sets-last (sets ++ (setFor sets (length sets) (x .reason) ∷ [])) ds d
+
+sets-length : (sets : List (List ℕ)) (ds : List Derivation) → length (setsFrom sets ds) ≡ length sets + length ds
+sets-length sets [] = sym (add-zero (length sets))
+sets-length sets (x ∷ ds) =
+    let more = sets ++ (setFor sets (length sets) (x .reason) ∷ []) in
+    let e : length more ≡ length sets + 1 = length-append sets (setFor sets (length sets) (x .reason) ∷ []) in
+    sets-length more ds ∙ omega (arith, e)
+
+-- ---- after the first k derivations
+
+-- d is derivation k
+record Next (ds : List Derivation) (k : ℕ) (d : Derivation) : Type 0 where
+  within : k < length ds
+  before : length (take k ds) ≡ k
+  more : take (k + 1) ds ≡ take k ds ++ (d ∷ [])
+  split : ds ≡ take k ds ++ (d ∷ drop (suc k) ds)
+
+found : (ds : List Derivation) (k : ℕ) (d : Derivation) → getD (map derivedRow ds) k (givenRow noRow) ≡ derivedRow d → (k < length ds) × (getD ds k d ≡ d)
+found [] k d e = let z : _≡_ {A = ℕ} 0 1 = cc in absurd (omega arith)
+found (x ∷ ds) zero d e = (omega arith, cc)
+found (x ∷ ds) (suc k) d e = let r = found ds k d e in (omega (arith, r .0), r .1)
+
+next-is : (ds : List Derivation) (k : ℕ) (d : Derivation) → getD (map derivedRow ds) k (givenRow noRow) ≡ derivedRow d → Next ds k d
+next-is ds k d e =
+    let f = found ds k d e in
+    let q : k + 1 ≡ suc k = omega arith in
+    record {
+      within = f .0;
+      before = length-take-le k ds (omega (arith, f .0));
+      more = ap (λ (n : ℕ). take n ds) q ∙ take-suc ds k d (f .0) ∙ ap (λ (x : Derivation). take k ds ++ (x ∷ [])) (f .1);
+      split = split-at ds k d (f .0) ∙ ap (λ (x : Derivation). take k ds ++ (x ∷ drop (suc k) ds)) (f .1);
+    }
+
+-- the rows below `upto`: the asm rows among them, n in all, their sets, and the masks
+pub record At (tree : Tree) (asms : List ℕ) (sets : List (List ℕ)) (upto n : ℕ) (masks : List ℕ) : Type 0 where
+  pub numbered : length sets ≡ upto
+  pub counted : length asms ≡ n
+  pub increasing : Increasing asms
+  pub below : (j : ℕ) → j < length asms → getD asms j 0 < upto
+  pub whole : length masks ≡ 1024
+  pub shows : Shows asms masks sets
+  pub alone : (i : ℕ) → i < upto → IsAssumption (entryAt tree i) → getD sets i [] ≡ i ∷ []
+
+module _ {tree : Tree} {asms : List ℕ} {sets : List (List ℕ)} {own n : ℕ} {masks : List ℕ} (at : At tree asms sets own n masks) (small : own < 1024) where
+  -- the next row's set is that of an asm row where it is one
+  alone-next : (why : Reason) → HasReason tree own why → (i : ℕ) → i < own + 1 → IsAssumption (entryAt tree i) → getD (sets ++ (setFor sets own why ∷ [])) i [] ≡ i ∷ []
+  alone-next why has i h a = go (eqb i own) refl
+    where
+      new : List ℕ
+      new = setFor sets own why
+
+      go : (t : Bool) → eqb i own ≡ t → getD (sets ++ (new ∷ [])) i [] ≡ i ∷ []
+      go true e =
+          let q = eqb-true i own e in
+          let is : has .0 .reason ≡ asm = subst IsAssumption (has .1) (subst (λ (j : ℕ). IsAssumption (entryAt tree j)) q a) in
+          getD-at sets new [] [] i (at .numbered ∙ sym q) ∙ ap (setFor sets own) (sym (has .2) ∙ is) ∙ ap (λ (j : ℕ). j ∷ []) (sym q)
+      go false e =
+          let ne = eqb-false i own e in
+          getD-other sets new [] i (λ z. ne (z ∙ at .numbered)) ∙ at .alone i (omega (arith, ne)) a
+
+  at-next : {more : List ℕ} {count : ℕ} (why : Reason) → HasReason tree own why → (r : ℕ) → length more ≡ count → Increasing more → ((j : ℕ) → j < length more → getD more j 0 < own + 1)
+      → Shows more masks sets → Represents more r (setFor sets own why)
+      → At tree more (sets ++ (setFor sets own why ∷ [])) (own + 1) count (set masks own r)
+  at-next why has r c up low p q =
+      record {
+        numbered = length-append sets (setFor sets own why ∷ []) ∙ ap (λ (l : ℕ). l + 1) (at .numbered);
+        counted = c;
+        increasing = up;
+        below = low;
+        whole = length-set masks own r ∙ at .whole;
+        shows = shows-next own r (setFor sets own why) (sym (at .numbered)) (omega (arith, at .whole)) p q;
+        alone = alone-next why has;
+      }
+
+  at-plain : (why : Reason) → HasReason tree own why → (r : ℕ) → Represents asms r (setFor sets own why) → At tree asms (sets ++ (setFor sets own why ∷ [])) (own + 1) n (set masks own r)
+  at-plain why has r p = at-next why has r (at .counted) (at .increasing) (λ j h. omega (arith, at .below j h)) (at .shows) p
+
+  at-asm : HasReason tree own asm → (r : ℕ) → n < 64 → ((j : ℕ) → bit r j ≡ one (eqb j n && ltb n 64)) → At tree (asms ++ (own ∷ [])) (sets ++ ((own ∷ []) ∷ [])) (own + 1) (n + 1) (set masks own r)
+  at-asm has r few bits =
+      at-next asm has r (length-append asms (own ∷ []) ∙ ap (λ (l : ℕ). l + 1) (at .counted)) (increasing-more asms own (at .increasing) (at .below)) low (shows-more own (at .shows))
+      (represents-single asms own r (omega (arith, at .counted)) (rw (at .counted) bits))
+    where
+      low : (j : ℕ) → j < length (asms ++ (own ∷ [])) → getD (asms ++ (own ∷ [])) j 0 < own + 1
+      low j h = go (eqb j (length asms)) refl
+        where
+          go : (t : Bool) → eqb j (length asms) ≡ t → getD (asms ++ (own ∷ [])) j 0 < own + 1
+          go true e = rw (getD-at asms own [] 0 j (sym (eqb-true j (length asms) e))) (omega arith)
+          go false e =
+              let ne = eqb-false j (length asms) e in
+              rw (getD-other asms own 0 j ne) (omega (arith, at .below j (omega (arith, ne, h, length-append asms (own ∷ [])))))
+
+module _ (tree : Tree) where
+  abbrev pub given : ℕ
+  given = length (tree .constraints .rows)
+
+  -- the asm rows and the sets of rules after the first k derivations
+  abbrev pub asmsAfter : ℕ → List ℕ
+  asmsAfter k = asmsOf given (take k (tree .derivations .derivations))
+
+  abbrev pub setsAfter : ℕ → List (List ℕ)
+  setsAfter k = setsFrom (map (λ (row : Row). []) (tree .constraints .rows)) (take k (tree .derivations .derivations))
+
+-- the first k derivations are done, n of them are asm rows, and these are the masks
+pub record Stand (tree : Tree) (k n : ℕ) (masks : List ℕ) : Type 0 where
+  pub at : At tree (asmsAfter tree k) (setsAfter tree k) (given tree + k) n masks
+
+-- "all empty at the start"
+pub stand-start : (tree : Tree) → Stand tree 0 0 (replicate 1024 0)
+stand-start tree =
+    record {
+      at =
+          record {
+            numbered = length-map rows (λ (row : Row). []) ∙ sym (add-zero (length rows));
+            counted = refl;
+            increasing = increasing-none;
+            below = λ j h. absurd (omega arith);
+            whole = length-replicate {A = ℕ} 1024 0;
+            shows = record { each = λ i. rw (none i, List·getD-map (λ (row : Row). []) rows i noRow) (represents-none []) };
+            alone = λ i h a. absurd (subst IsAssumption (entry-given tree i (omega arith)) a);
+          };
+    }
+  where
+    rows : List Row
+    rows = tree .constraints .rows
+
+    none : (i : ℕ) → getD {A = ℕ} (replicate 1024 0) i 0 ≡ 0
+    none i = go (ltb i 1024) refl
+      where
+        go : (t : Bool) → ltb i 1024 ≡ t → getD {A = ℕ} (replicate 1024 0) i 0 ≡ 0
+        go true e = getD-replicate 1024 i 0 0 (ltb-true i 1024 e)
+        go false e = List·getD-eq-default (replicate 1024 0) 0 (omega (arith, ltb-false i 1024 e, length-replicate {A = ℕ} 1024 0))
+
+-- ---- one derivation more
+
+module _ {tree : Tree} (t : TreeInRange tree) {k n : ℕ} {masks : List ℕ} (now : Stand tree k n masks) {own : ℕ} (here : own ≡ given tree + k) where
+  abbrev derivations : List Derivation
+  derivations = tree .derivations .derivations
+
+  abbrev asms : List ℕ
+  asms = asmsAfter tree k
+
+  abbrev sets : List (List ℕ)
+  sets = setsAfter tree k
+
+  at-own : At tree asms sets own n masks
+  at-own = subst (λ (u : ℕ). At tree asms sets u n masks) (sym here) (now .at)
+
+  module _ (why : Reason) (has : HasReason tree own why) where
+    next : Next derivations k (has .0)
+    next = next-is derivations k (has .0) (sym (entry-derived tree k) ∙ ap (entryAt tree) (sym here) ∙ has .1)
+
+    own-small : own < 1024
+    own-small = omega (arith, here, next .within, t .derivations-most, t .derivations-counted, t .rows-counted)
+
+    before : given tree + length (take k derivations) ≡ own
+    before = ap (λ (l : ℕ). given tree + l) (next .before) ∙ sym here
+
+    in-range : ReasonInRange own why
+    in-range =
+        subst₂ (λ (o : ℕ) (w : Reason). ReasonInRange o w) (ap (λ (m : ℕ). m + length (take k derivations)) (sym (t .rows-counted)) ∙ before) (has .2)
+        (t .derivations (take k derivations) (has .0) (drop (suc k) derivations) (next .split) .reason)
+
+    asms-next : asmsAfter tree (k + 1) ≡ asms ++ cond (isAssumption why) (own ∷ []) []
+    asms-next =
+        ap (asmsOf (given tree)) (next .more) ∙ asms-last (given tree) (take k derivations) (has .0) ∙ ap (λ (o : ℕ). asms ++ asmsOf o (has .0 ∷ [])) before
+        ∙ ap (λ (w : Reason). asms ++ cond (isAssumption w) (own ∷ []) []) (has .2)
+
+    sets-next : setsAfter tree (k + 1) ≡ sets ++ (setFor sets own why ∷ [])
+    sets-next =
+        let start = map (λ (row : Row). []) (tree .constraints .rows) in
+        ap (setsFrom start) (next .more) ∙ sets-last start (take k derivations) (has .0) ∙ ap (λ (o : ℕ). sets ++ (setFor sets o (has .0 .reason) ∷ [])) (at-own .numbered)
+        ∙ ap (λ (w : Reason). sets ++ (setFor sets own w ∷ [])) (has .2)
+
+    stand-by : (r : ℕ) {count : ℕ} → At tree (asms ++ cond (isAssumption why) (own ∷ []) []) (sets ++ (setFor sets own why ∷ [])) (own + 1) count (set masks own r)
+        → Stand tree (k + 1) count (set masks own r)
+    stand-by r {count} a =
+        let up : own + 1 ≡ given tree + (k + 1) = omega (arith, here) in
+        record {
+          at =
+              subst₂ (λ (l : List ℕ) (s : List (List ℕ)). At tree l s (given tree + (k + 1)) count (set masks own r)) (sym asms-next) (sym sets-next)
+              (subst (λ (u : ℕ). At tree (asms ++ cond (isAssumption why) (own ∷ []) []) (sets ++ (setFor sets own why ∷ [])) u count (set masks own r)) up a);
+        }
+
+    -- no asm row
+    stand-plain : (r : ℕ) → isAssumption why ≡ false → Represents asms r (setFor sets own why) → Stand tree (k + 1) n (set masks own r)
+    stand-plain r e p =
+        let same : asms ≡ asms ++ cond (isAssumption why) (own ∷ []) [] = sym (ap (λ (b : Bool). asms ++ cond b (own ∷ []) []) e ∙ append-nil asms) in
+        stand-by r (subst (λ (l : List ℕ). At tree l (sets ++ (setFor sets own why ∷ [])) (own + 1) n (set masks own r)) same (at-plain at-own own-small why has r p))
+
+  -- "`asm` is itself alone"
+  pub stand-asm : (r : ℕ) → HasReason tree own asm → ((j : ℕ) → bit r j ≡ one (eqb j n && ltb n 64)) → Stand tree (k + 1) (n + 1) (set masks own r)
+  stand-asm r has bits = stand-by asm has r (at-asm at-own (own-small asm has) has r few bits)
+    where
+      rest : List Derivation
+      rest = drop (suc k) derivations
+
+      counted : assumptions derivations ≡ n + suc (assumptions rest)
+      counted =
+          ap assumptions (next asm has .split) ∙ assumptions-append (take k derivations) (has .0 ∷ rest)
+          ∙ ap (λ (m : ℕ). m + assumptions (has .0 ∷ rest)) (sym (asms-length (given tree) (take k derivations)) ∙ now .at .counted)
+          ∙ ap (λ (w : Reason). n + cond (isAssumption w) (suc (assumptions rest)) (assumptions rest)) (has .2)
+
+      few : n < 64
+      few = omega (arith, counted, t .assumptions-most)
+
+  -- "`lin`, `rnd` the union"
+  pub stand-lin : (ms : MultiplierList) (r : ℕ) → HasReason tree own (lin ms) → ((j : ℕ) → bit r j ≡ unionBit masks (ms .multipliers) j) → Stand tree (k + 1) n (set masks own r)
+  stand-lin ms r has bits = stand-plain (lin ms) has r refl (represents-named (now .at .shows) (ms .multipliers) r bits)
+
+  pub stand-rnd : (ms : MultiplierList) (r : ℕ) → HasReason tree own (rnd ms) → ((j : ℕ) → bit r j ≡ unionBit masks (ms .multipliers) j) → Stand tree (k + 1) n (set masks own r)
+  stand-rnd ms r has bits = stand-plain (rnd ms) has r refl (represents-named (now .at .shows) (ms .multipliers) r bits)
+
+  -- the set of a row without an asm row
+  without-row : (i l r : ℕ) → l < own → IsAssumption (entryAt tree l) → ((j : ℕ) → bit r j ≡ bit (getD masks i 0) j - bit (getD masks l 0) j) → Represents asms r (without l (getD sets i []))
+  without-row i l r h a bits =
+      represents-without (at-own .increasing) (at-own .shows .each i) (subst (Represents asms (getD masks l 0)) (at-own .alone l h a) (at-own .shows .each l)) bits
+
+  -- "`uns` A(i1) without l1 joined with A(i2) without l2"; "both l rows are `asm` rows"
+  pub stand-uns : (u : Unsplit) (a b r : ℕ) → HasReason tree own (uns u) → IsAssumption (entryAt tree (u .l1)) × IsAssumption (entryAt tree (u .l2))
+      → ((j : ℕ) → bit a j ≡ bit (getD masks (u .i1) 0) j - bit (getD masks (u .l1) 0) j)
+      → ((j : ℕ) → bit b j ≡ bit (getD masks (u .i2) 0) j - bit (getD masks (u .l2) 0) j)
+      → ((j : ℕ) → bit r j ≡ max (bit a j) (bit b j))
+      → Stand tree (k + 1) n (set masks own r)
+  stand-uns u a b r has split first second both =
+      let range = in-range (uns u) has in
+      stand-plain (uns u) has r refl
+      (represents-union (without-row (u .i1) (u .l1) a (range .1) (split .0) first) (without-row (u .i2) (u .l2) b (range .3) (split .1) second) both)
+
+  -- "`sol` and given rows empty"
+  pub stand-sol : HasReason tree own sol → Stand tree (k + 1) n (set masks own 0)
+  stand-sol has = stand-plain sol has 0 refl (represents-none asms)
+
+-- ---- at the end
+
+same-test : {P : Type 0} (a b : Bool) → Decides a P → Decides b P → a ≡ b
+same-test true b p q = sym (q .1 (p .0 refl))
+same-test false true p q = p .1 (q .0 refl)
+same-test false false p q = refl
+
+-- a mask has no bits exactly if the row has "no assumptions"
+pub stand-end : {tree : Tree} {k n : ℕ} {masks : List ℕ} → Stand tree k n masks → length (tree .derivations .derivations) ≤ k → (i : ℕ)
+    → Decides (isEmpty (assumptionsOf tree i)) ((j : ℕ) → bit (getD masks i 0) j ≡ 0)
+unfolding assumptionsOf setsOf
+stand-end {tree} {k} {n} {masks} now done i =
+    let start = map (λ (row : Row). []) (tree .constraints .rows) in
+    represents-empty
+    (subst (λ (ds : List Derivation). Represents (asmsAfter tree k) (getD masks i 0) (getD (setsFrom start ds) i [])) (take-all k (tree .derivations .derivations) done) (now .at .shows .each i))
+
+-- so the test of a mask is the test of rules
+pub stand-empty : {tree : Tree} {k n : ℕ} {masks : List ℕ} → Stand tree k n masks → length (tree .derivations .derivations) ≤ k → (i : ℕ) (r : Bool)
+    → Decides r ((j : ℕ) → bit (getD masks i 0) j ≡ 0) → r ≡ isEmpty (assumptionsOf tree i)
+stand-empty {tree} {masks = masks} now done i r d = same-test r (isEmpty (assumptionsOf tree i)) d (stand-end now done i)
