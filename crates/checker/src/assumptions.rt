@@ -14,10 +14,7 @@ use crate::tables;
 use crate::tables::Frame;
 
 // The union of the sets of the rows that stand in so many cells.
-fn union_of(index: &[u16], all: &[u64; 1024], cell: usize, count: usize) -> u64
-    requires { ⌜ NamedBelow (now index) 1024 cell count ⌝ }
-    ensures { λ u. ⌜ ((k : ℕ) → bit u k ≡ unionBit (now (all .entry)) k (cellsAt (now (index .entry)) cell count)) ⌝ }
-{
+fn union_of(index: &[u16], all: &[u64; 1024], cell: usize, count: usize) -> u64 {
     let mut union = 0;
     let mut at = cell;
     let mut left = count;
@@ -38,8 +35,7 @@ fn without_row(
     all: &[u64; 1024],
     set: u64,
     l: usize,
-) -> u64
-{
+) -> u64 {
     if derivations::is_assumption(index, rows, frame, l) {
         sets::without(set, all[l])
     } else {
@@ -55,8 +51,7 @@ fn set_of(
     all: &[u64; 1024],
     k: usize,
     assumed: usize,
-) -> u64
-{
+) -> u64 {
     let cell = tables::reason_at(index, rows, frame.given + k);
     let word = index[cell];
     if word == 0 {
@@ -65,8 +60,22 @@ fn set_of(
     if word == 3 {
         let first = index[cell + 1] as usize;
         let second = index[cell + 3] as usize;
-        let a = without_row(index, rows, frame, all, all[first], index[cell + 2] as usize);
-        let b = without_row(index, rows, frame, all, all[second], index[cell + 4] as usize);
+        let a = without_row(
+            index,
+            rows,
+            frame,
+            all,
+            all[first],
+            index[cell + 2] as usize,
+        );
+        let b = without_row(
+            index,
+            rows,
+            frame,
+            all,
+            all[second],
+            index[cell + 4] as usize,
+        );
         return sets::union(a, b);
     }
     if word == 4 {

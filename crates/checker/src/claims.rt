@@ -13,11 +13,11 @@ ghost use Rattle.rules.specs.Assumptions.{assumptionsOf, isEmpty};
 ghost use Rattle.rules.specs.Claims.{asked, lastRow, lastPasses, isProved};
 ghost use Rattle.checker.specs.Held.{EndStands, EndIsThere, ClaimStands, ClaimIsThere, Stands, Standing, Found};
 ghost use Rattle.checker.specs.Answers.{boundSays, endIn, against, askedSays};
-use constraint::Sense;
 use crate::assumptions;
 use crate::derivations;
 use crate::tables;
 use crate::tables::Frame;
+use constraint::Sense;
 use fraction::Fraction;
 
 // An end of a range: infinite, or finite with a value.
@@ -88,12 +88,14 @@ fn asked_at(index: &[u16], values: &[i32], rows: &[u16], frame: Frame) -> Asked
     requires { ⌜ Standing frame (now index) (now values) (now rows) ⌝ }
     ensures { λ a. ⌜ ((tree : Tree) → Stands tree frame (now (index .entry)) (now (values .entry)) (now (rows .entry)) → askedSays tree a ≡ asked tree) ⌝ }
 {
-    if index[frame.claim] == 0 {
+    let claim = frame.claim;
+    if index[claim] == 0 {
         return Asked::Absurdity;
     }
-    let bound = end_of(index, values, frame.claim, frame.ends, frame.maximize);
+    let bound = end_of(index, values, claim, frame.ends, frame.maximize);
+    let value = bound.value;
     if bound.finite {
-        Asked::Domination(bound.value)
+        Asked::Domination(value)
     } else {
         Asked::Nothing
     }

@@ -122,7 +122,7 @@ fn check_lin(index: &[u16], values: &[i32], rows: &[u16], frame: Frame, own: usi
 {
     let objective = frame.objective;
     let multipliers = tables::multipliers_at(index, rows, own);
-    let made = suitable::suitable(index, values, rows, objective, multipliers, own);
+    let made = suitable::suitable_of(index, values, rows, objective, multipliers, own);
     let check = made.check;
     let Check::Fine = check else {
         return check;
@@ -145,7 +145,7 @@ fn check_rnd(
 {
     let objective = frame.objective;
     let multipliers = tables::multipliers_at(index, rows, own);
-    let made = suitable::suitable(index, values, rows, objective, multipliers, own);
+    let made = suitable::suitable_of(index, values, rows, objective, multipliers, own);
     let check = made.check;
     let Check::Fine = check else {
         return check;

@@ -4,7 +4,7 @@ use grammar::Refusal;
 use reader::Reading;
 
 mod assumptions;
-mod check;
+mod checking;
 mod claims;
 mod combination;
 mod derivations;
@@ -32,18 +32,13 @@ pub enum Verification {
 }
 
 // Reads a text into the tables, whatever stood in them, and checks what was read. The tables are left as reading leaves them.
-pub fn verify(
-    text: &[u8],
-    index: &mut [u16],
-    values: &mut [i32],
-    rows: &mut [u16],
-) -> Verification
+pub fn verify(text: &[u8], index: &mut [u16], values: &mut [i32], rows: &mut [u16]) -> Verification
     ensures { λ r. ⌜ CertificateVerified (now (text .entry)) (now (index .entry)) (now (values .entry)) (now (rows .entry)) (now (index .exit)) (now (values .exit)) (now (rows .exit)) r ⌝ }
 {
     match reader::read_certificate(text, index, values, rows) {
         Reading::Refused(reason, line) => Verification::Refused(reason, line),
         Reading::Taken(places) => {
-            match check::check(index, values, rows, places) {
+            match checking::check(index, values, rows, places) {
                 Verdict::Fine => Verification::Verified,
                 Verdict::Refused(reason, place) => {
                     Verification::Refused(reason, text::line_of(text, place))

@@ -70,7 +70,7 @@ fn with_objective(maximize: bool, best: Best, bound: Fraction, o: Fraction) -> B
 }
 
 // "After all solutions, their objectives, the same way and in order".
-pub(crate) fn objectives(
+pub(crate) fn objectives_of(
     index: &[u16],
     values: &[i32],
     rows: &[u16],

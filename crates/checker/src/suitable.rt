@@ -48,7 +48,7 @@ fn signed_at(
 }
 
 // The signs of the multipliers, which name rows below the row `own`.
-fn signs(
+fn signs_of(
     index: &[u16],
     values: &[i32],
     rows: &[u16],
@@ -82,7 +82,7 @@ fn signs(
 }
 
 // The suitable combination of the rows that multipliers name, all below the row `own`: 13, then 12.
-pub(crate) fn suitable(
+pub(crate) fn suitable_of(
     index: &[u16],
     values: &[i32],
     rows: &[u16],
@@ -93,15 +93,16 @@ pub(crate) fn suitable(
     requires { ⌜ RowsAreThere (now index) (now values) (now rows) objective own × Listed (now index) (now values) own multipliers ⌝ }
     ensures { λ s. ⌜ ((tree : Tree) → RowsStand tree (now (index .entry)) (now (values .entry)) (now (rows .entry)) objective own → (place : ℕ) → suitableSays place s ≡ suitableCombination tree place (multipliersAt (now (index .entry)) (now (values .entry)) multipliers)) ⌝ }
 {
-    let s = signs(index, values, rows, objective, multipliers, own);
+    let s = signs_of(index, values, rows, objective, multipliers, own);
     let sense = constraint::sense_of(s.nonnegative, s.nonpositive);
     let made = combination::combine(index, values, rows, objective, multipliers, own);
     let combination = made.combination;
     let coefficients = combination.coefficients;
+    let right = combination.right;
     let constraint = Constraint {
         sense: sense,
         coefficients: coefficients,
-        right: combination.right,
+        right: right,
     };
     if !(s.nonnegative | s.nonpositive) {
         return Suitable {

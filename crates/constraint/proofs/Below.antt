@@ -2,25 +2,11 @@
 -- Assumes nothing.
 use mathlib.Core.Path.{_≡_, refl, sym, _∙_, ap}
 use mathlib.Core.Bool.{Bool, true, false, _&&_}
-use mathlib.Core.List.{List, [], _∷_}
 use Prim.Native.Nat.{ℕ, zero, suc, _+_, _≤_, _<_, min}
-use native.Mathlib.Nat.{add-one, not-suc-le-zero, le-of-suc-le-suc}
+use native.Mathlib.Numerals.{add-one}
 use native.Mathlib.Decide.{decLt}
 use native.Mathlib.Omega.{arith}
-use lib.ListN.{getD, length, List·getD-eq-default}
-use lib.IntN.{pos}
-use Rattle.fraction.specs.Laws.{zeroF}
-use Rattle.fraction.specs.declared.Fraction.{Fraction}
 use Rattle.rules.specs.Tests.{Decides, EveryBelow, everyBelow, fails, failed, decides-below}
-
--- ---- a read within a list is the same whatever stands for those beyond it
-
-pub same-read : {A : Type 0} (xs : List A) (d e : A) {n : ℕ} → n < length xs → getD xs n d ≡ getD xs n e
-same-read [] d e h = absurd (not-suc-le-zero h)
-same-read (x ∷ xs) d e {n = zero} h = refl
-same-read (x ∷ xs) d e {n = suc n} h = same-read xs d e {n = n} (le-of-suc-le-suc h)
-
--- ---- the loop
 
 module _ (test : ℕ → Bool) where
   decides-each : (n : ℕ) → Decides (everyBelow n test) (EveryBelow n (λ v. test v ≡ true))
@@ -28,7 +14,7 @@ module _ (test : ℕ → Bool) where
 
   -- one more passes
   pub every-on : (v : ℕ) → everyBelow v test ≡ true → test v ≡ true → everyBelow (v + 1) test ≡ true
-  every-on v e t = rw (add-one, e, t)
+  every-on v e t = rw (add-one v, e, t)
 
   -- one fails
   pub every-stop : (n v : ℕ) → v < n → test v ≡ false → everyBelow n test ≡ false

@@ -4,14 +4,15 @@ use mathlib.Core.Path.{_≡_, refl, sym, _∙_, ap}
 use mathlib.Core.Bool.{Bool, true, false}
 use Prim.Native.Nat.{ℕ, zero, suc, _+_, _^_, _≤_, _<_}
 use native.Mathlib.Omega.{arith}
-use borrow.Author.Tests.{eqb-true, eqb-false}
+use borrow.Author.Tests.{eqb-true, eqb-false, lt-ltb}
 use lib.Dec.{eqb}
-use lib.IntN.{ℤ, pos, negsuc, _+ℤ_}
+use lib.IntN.{ℤ, pos, negsuc, negℤ, _+ℤ_, _-ℤ_, _*ℤ_, *ℤ-negsuc}
 use lib.Signed.{mag}
 use mir.Syntax.{Width, w32, w64}
 use mir.Val.{SFits, toZ, ofZ}
 use mir.Facts.{toZ-ofZ}
-use Rattle.integers.proofs.Casts.{back-of, back64-of}
+use Rattle.integers.proofs.Casts.{back-of, zero-minus, neg-fits, natAbs-small}
+use Rattle.integers.specs.Integers.{*ℤ-pos-one}
 use Rattle.fraction.specs.Outcome.{Outcome}
 use Rattle.fraction.specs.Fraction.{Order, comparisonSays}
 use Rattle.fraction.specs.declared.Comparison.{Comparison}
@@ -43,7 +44,7 @@ is-number x n p q = same-bits w32 x (pos n) (record { sfits = p }) (record { sfi
 mag-next : (x : ℤ) → mag (x +ℤ pos 1) ≤ mag x + 1
 mag-next (pos n) = omega arith
 mag-next (negsuc zero) = omega arith
-mag-next (negsuc (suc n)) = omega arith
+mag-next (negsuc (suc n)) = rw (lt-ltb 1 (suc (suc n)) (omega arith)) (omega arith)
 
 pub next-fits : (x : ℤ) → mag x < 2147483648 → SFits w64 (x +ℤ pos 1)
 next-fits x p = record { sfits = omega (arith, mag-next x) }
@@ -52,11 +53,27 @@ pub wide-fits : (x : ℤ) → mag x < 2147483648 → SFits w64 x
 wide-fits x p = record { sfits = omega arith }
 
 -- an i32 that was copied, and then widened
+pub cast-fits : (x : ℤ) → mag x < 2147483648 → SFits w64 (toZ w32 (ofZ w32 x))
+cast-fits x p = rw (back-of x p) (wide-fits x p)
+
 pub copied : (x : ℤ) → mag x < 2147483648 → toZ w64 (ofZ w64 (toZ w32 (ofZ w32 x))) ≡ x
 copied x p = ap (λ (z : ℤ). toZ w64 (ofZ w64 z)) (back-of x p) ∙ toZ-ofZ (wide-fits x p)
 
-pub is-next : (x y : ℤ) → mag x < 2147483648 → mag y < 2147483648 → eqb (ofZ w64 y) (ofZ w64 (x +ℤ pos 1)) ≡ sameZ y (x +ℤ pos 1)
-is-next x y p q = same-bits w64 y (x +ℤ pos 1) (wide-fits y q) (next-fits x p)
+pub sum-fits : (x : ℤ) → mag x < 2147483648 → SFits w64 (toZ w64 (ofZ w64 (toZ w32 (ofZ w32 x))) +ℤ pos 1)
+sum-fits x p = rw (copied x p) (next-fits x p)
+
+pub is-next : (x y : ℤ) → mag x < 2147483648 → mag y < 2147483648
+    → eqb (ofZ w64 (toZ w32 (ofZ w32 y))) (ofZ w64 (toZ w64 (ofZ w64 (toZ w32 (ofZ w32 x))) +ℤ pos 1)) ≡ sameZ y (x +ℤ pos 1)
+is-next x y p q = rw (copied x p, back-of y q) (same-bits w64 y (x +ℤ pos 1) (wide-fits y q) (next-fits x p))
+
+-- ---- 0 minus a number, in 64 bits
+
+pub negated-fits : (x : ℤ) → mag x < 2147483648 → SFits w64 (pos 0 -ℤ toZ w64 (ofZ w64 (toZ w32 (ofZ w32 x))))
+negated-fits x p = rw (copied x p, zero-minus x) (neg-fits x (omega (arith, natAbs-small x (record { sfits = p }))))
+
+pub negated : (x : ℤ) → mag x < 2147483648
+    → toZ w64 (ofZ w64 (pos 0 -ℤ toZ w64 (ofZ w64 (toZ w32 (ofZ w32 x))))) ≡ x *ℤ negsuc 0
+negated x p = toZ-ofZ (negated-fits x p) ∙ rw (copied x p, zero-minus x) (sym (*ℤ-negsuc x 0 ∙ ap negℤ (*ℤ-pos-one x)))
 
 -- ---- a test of how two values compare
 

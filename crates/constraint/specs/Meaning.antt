@@ -29,29 +29,37 @@ senseIs AtLeast = tree.atLeast
 abbrev pub coefficientsOf : List Fraction → ℕ → Fraction
 coefficientsOf cs v = getD cs v zeroF
 
+-- which variables an array marks
+abbrev pub marked : List Bool → ℕ → Bool
+marked integers v = getD integers v false
+
 -- the constraint that a struct stands for
 abbrev pub meant : Constraint → rows.Constraint
 meant c = record { sense = senseIs (c .sense); coefficient = coefficientsOf (c .coefficients); right = c .right }
 
 -- ---- the tests of coefficients, each of n variables
 
+abbrev pub zeroAt : List Fraction → ℕ → Bool
+zeroAt cs v = isZero (exact (coefficientsOf cs v))
+
 abbrev pub allZero : ℕ → List Fraction → Bool
-allZero n cs = everyBelow n (λ v. isZero (exact (coefficientsOf cs v)))
+allZero n cs = everyBelow n (zeroAt cs)
+
+abbrev pub sameAt : List Fraction → List Fraction → ℕ → Bool
+sameAt cs ds v = isSame (coefficientsOf cs v) (coefficientsOf ds v)
 
 abbrev pub allSame : ℕ → List Fraction → List Fraction → Bool
-allSame n cs ds = everyBelow n (λ v. isSame (coefficientsOf cs v) (coefficientsOf ds v))
+allSame n cs ds = everyBelow n (sameAt cs ds)
 
 -- whole, and "nonzero only at integer variables"
-abbrev pub integralAt : Fraction → Bool → Bool
-integralAt f integer = isWhole f && (isZero (exact f) || integer)
+abbrev pub mayStand : Fraction → Bool → Bool
+mayStand f integer = isWhole f && (isZero (exact f) || integer)
 
-abbrev pub allIntegral : ℕ → (ℕ → Bool) → (ℕ → Fraction) → Bool
-allIntegral n integer coefficient =
-    everyBelow n (λ v. integralAt (coefficient v) (integer v))
+abbrev pub integralAt : List Fraction → List Bool → ℕ → Bool
+integralAt cs integers v = mayStand (coefficientsOf cs v) (marked integers v)
 
--- which variables an array marks
-abbrev pub marked : List Bool → ℕ → Bool
-marked integers v = getD integers v false
+abbrev pub allIntegral : ℕ → List Fraction → List Bool → Bool
+allIntegral n cs integers = everyBelow n (integralAt cs integers)
 
 -- a tree has n variables, and the integer ones are those that an array marks
 pub record VariablesAre (certificate : tree.Tree) (n : ℕ) (integers : List Bool) : Type 0 where

@@ -12,7 +12,7 @@ ghost use Rattle.rules.specs.Solutions.{holds as holdsOf};
 ghost use Rattle.rules.specs.Domination.{failsAtZero, isAbsurd, sameCoefficients, isTighter, dominates as dominatesOf};
 ghost use Rattle.rules.specs.Rounding.{isIntegral, canBeRounded, rounded as roundedOf};
 ghost use Rattle.rules.specs.Splits.{areAdjacent, isSplit};
-ghost use Rattle.constraint.specs.Meaning.{senseIs, coefficientsOf, meant, VariablesAre, allZero, allSame, integralAt, allIntegral, marked, areNext, withRounding};
+ghost use Rattle.constraint.specs.Meaning.{senseIs, meant, VariablesAre, allZero, allSame, mayStand, allIntegral, areNext, withRounding};
 ghost use Rattle.constraint.specs.Signs.{signedNumber, senseBy};
 use fraction::Comparison;
 use fraction::Fraction;
@@ -210,8 +210,8 @@ pub fn dominates(c: Constraint, d: Constraint, n: usize) -> bool
 // ---- rounding
 
 // Whether a coefficient is whole, and zero unless its variable is integer.
-fn fits_integers(f: Fraction, integer: bool) -> bool
-    ensures { λ r. ⌜ r ≡ integralAt f integer ⌝ }
+fn may_stand(f: Fraction, integer: bool) -> bool
+    ensures { λ r. ⌜ r ≡ mayStand f integer ⌝ }
 {
     if is_whole(f) {
         if is_zero(f) { true } else { integer }
@@ -221,12 +221,12 @@ fn fits_integers(f: Fraction, integer: bool) -> bool
 }
 
 fn all_integral(coefficients: [Fraction; 256], integers: [bool; 256], n: usize) -> bool
-    ensures { λ r. ⌜ r ≡ allIntegral n (marked integers) (coefficientsOf coefficients) ⌝ }
+    ensures { λ r. ⌜ r ≡ allIntegral n coefficients integers ⌝ }
 {
     let most = in_array(n);
     let mut v = 0;
     while v < most {
-        if fits_integers(coefficients[v], integers[v]) {
+        if may_stand(coefficients[v], integers[v]) {
             v += 1;
         } else {
             return false;

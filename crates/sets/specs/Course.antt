@@ -4,19 +4,19 @@
 use mathlib.Core.Path.{_≡_, refl, sym, _∙_, ap, subst, subst₂}
 use mathlib.Core.Bool.{Bool, true, false, cond, _&&_}
 use mathlib.Core.List.{List, [], _∷_, _++_, map, append-nil}
-use mathlib.Core.Logic.{_↔_, _⊎_, inl, inr, ⊎-elim}
+use mathlib.Core.Logic.{_↔_, inl, inr, ⊎-elim}
 use Prim.Native.Nat.{ℕ, zero, suc, _+_, _-_, _<_, _≤_, max}
 use native.Mathlib.Nat.{add-zero, zero-add}
 use native.Mathlib.Omega.{arith}
 use borrow.Author.Tests.{eqb-true, eqb-false, ltb-true, ltb-false}
 use lib.Dec.{eqb, ltb}
-use lib.ListN.{length, getD, set, take, drop, replicate, length-append, length-set, length-replicate, getD-replicate, length-map, List·getD-map, List·getD-append, List·getD-eq-default}
+use lib.ListN.{length, getD, set, take, drop, replicate, take-append-drop, length-append, length-set, length-replicate, getD-replicate, length-map, List·getD-map, List·getD-append, List·getD-eq-default}
 use lib.Seq.{take-all, length-take-le, take-suc, split-at, getD-at, getD-set-same, getD-set-other}
 use Rattle.grammar.specs.Tree.{Row, Multiplier, MultiplierList, Unsplit, Reason, asm, lin, rnd, uns, sol, Derivation, Tree}
 use Rattle.grammar.specs.Certificate.{isAssumption, assumptions}
 use Rattle.grammar.specs.Ranges.{ReasonInRange, TreeInRange}
 use Rattle.rules.specs.Tests.{In, Decides}
-use Rattle.rules.specs.Rows.{Entry, givenRow, derivedRow, noRow, entryAt}
+use Rattle.rules.specs.Rows.{givenRow, derivedRow, noRow, entryAt}
 use Rattle.rules.specs.RowsLaws.{entry-given, entry-derived}
 use Rattle.rules.specs.Splits.{IsAssumption}
 use Rattle.rules.specs.Assumptions.{HasReason, without, unionOf, setFor, setsFrom, setsOf, assumptionsOf, isEmpty}
@@ -87,10 +87,16 @@ represents-named {asms} {masks} {sets} p ms r bits =
           (z .0, in-union (getD asms k 0) sets ms .1 (m .0, m .1, z .1));
     }
 
--- a loop over the multipliers: the masks so far, and those of the rows that are left
+-- a loop over the multipliers, from the empty set on: the masks so far, and those of the rows that are left
+pub union-start : (masks : List ℕ) (ms : List Multiplier) (j : ℕ) → max (bit 0 j) (unionBit masks ms j) ≡ unionBit masks ms j
+union-start masks ms j = omega (arith, bit-zero j)
+
 pub union-on : (masks : List ℕ) (acc r : ℕ) (m : Multiplier) (ms : List Multiplier) → ((j : ℕ) → bit r j ≡ max (bit acc j) (bit (getD masks (m .row) 0) j))
     → (j : ℕ) → max (bit r j) (unionBit masks ms j) ≡ max (bit acc j) (unionBit masks (m ∷ ms) j)
 union-on masks acc r m ms bits j = omega (arith, bits j)
+
+pub union-end : (masks : List ℕ) (r j : ℕ) → max (bit r j) (unionBit masks [] j) ≡ bit r j
+union-end masks r j = omega arith
 
 -- ---- the asm rows
 
@@ -137,13 +143,6 @@ sets-last : (sets : List (List ℕ)) (ds : List Derivation) (d : Derivation)
     → setsFrom sets (ds ++ (d ∷ [])) ≡ setsFrom sets ds ++ (setFor (setsFrom sets ds) (length (setsFrom sets ds)) (d .reason) ∷ [])
 sets-last sets [] d = refl
 sets-last sets (x ∷ ds) d = sets-last (sets ++ (setFor sets (length sets) (x .reason) ∷ [])) ds d
-
-sets-length : (sets : List (List ℕ)) (ds : List Derivation) → length (setsFrom sets ds) ≡ length sets + length ds
-sets-length sets [] = sym (add-zero (length sets))
-sets-length sets (x ∷ ds) =
-    let more = sets ++ (setFor sets (length sets) (x .reason) ∷ []) in
-    let e : length more ≡ length sets + 1 = length-append sets (setFor sets (length sets) (x .reason) ∷ []) in
-    sets-length more ds ∙ omega (arith, e)
 
 -- ---- after the first k derivations
 
@@ -254,7 +253,7 @@ stand-start tree =
             increasing = increasing-none;
             below = λ j h. absurd (omega arith);
             whole = length-replicate {A = ℕ} 1024 0;
-            shows = record { each = λ i. rw (none i, List·getD-map (λ (row : Row). []) rows i noRow) (represents-none []) };
+            shows = record { each = λ i. rw (none i, List·getD-map {B = List ℕ} (λ (row : Row). []) rows i noRow) (represents-none []) };
             alone = λ i h a. absurd (subst IsAssumption (entry-given tree i (omega arith)) a);
           };
     }
@@ -267,7 +266,14 @@ stand-start tree =
       where
         go : (t : Bool) → ltb i 1024 ≡ t → getD {A = ℕ} (replicate 1024 0) i 0 ≡ 0
         go true e = getD-replicate 1024 i 0 0 (ltb-true i 1024 e)
-        go false e = List·getD-eq-default (replicate 1024 0) 0 (omega (arith, ltb-false i 1024 e, length-replicate {A = ℕ} 1024 0))
+        go false e = List·getD-eq-default (replicate 1024 0) 0 {n = i} (omega (arith, ltb-false i 1024 e, length-replicate {A = ℕ} 1024 0))
+
+-- "The 65th word `asm` is 5": a mask has a bit for each asm row
+pub stand-few : {tree : Tree} {k n : ℕ} {masks : List ℕ} → TreeInRange tree → Stand tree k n masks → n ≤ 64
+stand-few {tree} {k} {n} t now =
+    let ds = tree .derivations .derivations in
+    let counted : assumptions ds ≡ assumptions (take k ds) + assumptions (drop k ds) = ap assumptions (sym (take-append-drop k ds)) ∙ assumptions-append (take k ds) (drop k ds) in
+    omega (arith, counted, asms-length (given tree) (take k ds), now .at .counted, t .assumptions-most)
 
 -- ---- one derivation more
 

@@ -1,42 +1,42 @@
+-- `constraint::are_next` meets its contract: whole numbers whose numerators, in 64 bits, are one apart.
+use mathlib.Core.Path.{_∙_}
 use borrow.Author.Needs.{needs}
-use native.Mathlib.Omega.{arith}
 use Rattle.constraint.proofs.are_next.Statement.{statement}
 use Rattle.constraint.proofs.are_next.Tie as tie
-use Rattle.constraint.proofs.are_next.Reads as reads
-use Rattle.constraint.proofs.are_next.Lts as lts
 use Rattle.constraint.proofs.is_whole.Reads as is-whole-reads
+use Rattle.constraint.proofs.Truth.{and-yes, and-no}
+use Rattle.constraint.proofs.Numbers.{cast-fits, sum-fits, is-next}
 
--- src/lib.rt:289:8
 is-whole-requires : tie.Need-is-whole-requires
 is-whole-requires c κs = search needs
 
--- src/lib.rt:290:12
 is-whole-requires-2 : tie.Need-is-whole-requires-2
 is-whole-requires-2 c κs = search needs
 
--- src/lib.rt:293:21
 cast-result : tie.Need-cast-result
-cast-result c = search needs
+cast-result c = cast-fits (c .before .before .before .before .before .before .args .b .num) (c .struct-told2 .given .0 .1)
 
--- src/lib.rt:293:35
 cast-result-2 : tie.Need-cast-result-2
-cast-result-2 c = search needs
+cast-result-2 c = cast-fits (c .before .before .before .before .before .before .args .a .num) (c .before .struct-told .given .0 .1)
 
--- src/lib.rt:293:34
 add-result : tie.Need-add-result
-add-result c = search needs
+add-result c = sum-fits (c .before .before .before .before .before .before .args .a .num) (c .before .struct-told .given .0 .1)
 
--- src/lib.rt:293:13
 returns : tie.Need-returns
-returns c = search needs
+returns c =
+    let t = c .before .before .before in
+    let a = t .before .before .before .args in
+    is-next (a .a .num) (a .b .num) (c .before .struct-told .given .0 .1) (c .struct-told2 .given .0 .1)
+    ∙ and-yes _ (t .is-whole2 .ensures) (c .before .before .if2 .taken)
+    ∙ and-yes _ (t .before .before .is-whole .ensures) (t .before .if1 .taken)
 
--- src/lib.rt:286:1
 returns-2 : tie.Need-returns-2
-returns-2 c = search needs
+returns-2 c =
+    let t = c .before .before in
+    and-no _ (c .before .is-whole2 .ensures) (c .if2 .left) ∙ and-yes _ (t .before .is-whole .ensures) (t .if1 .taken)
 
--- src/lib.rt:286:1
 returns-3 : tie.Need-returns-3
-returns-3 c = search needs
+returns-3 c = and-no _ (c .before .is-whole .ensures) (c .if1 .left)
 
 pub are-next-spec : {M : Type 1} → statement M
 are-next-spec =

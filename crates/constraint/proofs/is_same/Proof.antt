@@ -1,46 +1,37 @@
+-- `constraint::is_same` meets its contract: each answer of `compare` passes the test or not.
 use borrow.Author.Needs.{needs}
-use native.Mathlib.Omega.{arith}
 use Rattle.constraint.proofs.is_same.Statement.{statement}
 use Rattle.constraint.proofs.is_same.Tie as tie
-use Rattle.constraint.proofs.is_same.Reads as reads
-use Rattle.constraint.proofs.is_same.Lts as lts
 use Rattle.fraction.proofs.compare.Reads as compare-reads
+use Rattle.rules.specs.Values.{isEqual}
+use Rattle.constraint.proofs.Numbers.{passed}
 
--- src/lib.rt:66:11
 compare-requires : tie.Need-compare-requires
 compare-requires c κs = search needs
 
--- src/lib.rt:67:29
 enum-told : tie.Need-enum-told
 enum-told c = search needs
 
--- src/lib.rt:68:30
 enum-told-2 : tie.Need-enum-told-2
 enum-told-2 c = search needs
 
--- src/lib.rt:69:32
 enum-told-3 : tie.Need-enum-told-3
 enum-told-3 c = search needs
 
--- src/lib.rt:70:37
 enum-told-4 : tie.Need-enum-told-4
 enum-told-4 c = search needs
 
--- src/lib.rt:63:1
 returns : tie.Need-returns
-returns c = search needs
+returns c = passed isEqual (c .before .before .compare .ensures) (c .enum-told .given .1)
 
--- src/lib.rt:63:1
 returns-2 : tie.Need-returns-2
-returns-2 c = search needs
+returns-2 c = passed isEqual (c .before .before .compare .ensures) (c .enum-told2 .given .1)
 
--- src/lib.rt:63:1
 returns-3 : tie.Need-returns-3
-returns-3 c = search needs
+returns-3 c = passed isEqual (c .before .before .compare .ensures) (c .enum-told3 .given .1)
 
--- src/lib.rt:63:1
 returns-4 : tie.Need-returns-4
-returns-4 c = search needs
+returns-4 c = passed isEqual (c .before .before .compare .ensures) (c .enum-told4 .given .1)
 
 pub is-same-spec : {M : Type 1} → statement M
 is-same-spec =

@@ -1,87 +1,69 @@
+-- `constraint::is_tighter` meets its contract: an equality dominates wherever the other sense holds of the right sides.
+use mathlib.Core.Path.{_∙_}
 use borrow.Author.Needs.{needs}
-use native.Mathlib.Omega.{arith}
 use Rattle.constraint.proofs.is_tighter.Statement.{statement}
 use Rattle.constraint.proofs.is_tighter.Tie as tie
-use Rattle.constraint.proofs.is_tighter.Reads as reads
-use Rattle.constraint.proofs.is_tighter.Lts as lts
 use Rattle.constraint.proofs.holds.Reads as holds-reads
 use Rattle.constraint.proofs.is_at_most.Reads as is-at-most-reads
+use Rattle.constraint.specs.Meaning.{senseIs}
+use Rattle.constraint.proofs.Senses.{equal-tighter}
 
--- src/lib.rt:174:25
 enum-told : tie.Need-enum-told
 enum-told c = search needs
 
--- src/lib.rt:174:25
 holds-requires : tie.Need-holds-requires
 holds-requires c κs = search needs
 
--- src/lib.rt:175:26
 enum-told-2 : tie.Need-enum-told-2
 enum-told-2 c = search needs
 
--- src/lib.rt:176:29
 enum-told-3 : tie.Need-enum-told-3
 enum-told-3 c = search needs
 
--- src/lib.rt:177:30
 enum-told-4 : tie.Need-enum-told-4
 enum-told-4 c = search needs
 
--- src/lib.rt:177:30
 is-at-most-requires : tie.Need-is-at-most-requires
 is-at-most-requires c κs = search needs
 
--- src/lib.rt:178:31
 enum-told-5 : tie.Need-enum-told-5
 enum-told-5 c = search needs
 
--- src/lib.rt:180:27
 enum-told-6 : tie.Need-enum-told-6
 enum-told-6 c = search needs
 
--- src/lib.rt:181:29
 enum-told-7 : tie.Need-enum-told-7
 enum-told-7 c = search needs
 
--- src/lib.rt:182:30
 enum-told-8 : tie.Need-enum-told-8
 enum-told-8 c = search needs
 
--- src/lib.rt:183:31
 enum-told-9 : tie.Need-enum-told-9
 enum-told-9 c = search needs
 
--- src/lib.rt:183:31
 is-at-most-requires-2 : tie.Need-is-at-most-requires-2
 is-at-most-requires-2 c κs = search needs
 
--- src/lib.rt:170:1
 returns : tie.Need-returns
-returns c = search needs
+returns c = rw (c .before .enum-told .given .1) (c .holds .ensures ∙ equal-tighter (senseIs (c .before .before .before .args .t)) (c .before .before .before .args .a) (c .before .before .before .args .b))
 
--- src/lib.rt:170:1
 returns-2 : tie.Need-returns-2
 returns-2 c = search needs
 
--- src/lib.rt:170:1
 returns-3 : tie.Need-returns-3
-returns-3 c = search needs
+returns-3 c = rw (c .before .enum-told4 .given .1, c .before .before .before .enum-told2 .given .1) (c .is-at-most .ensures)
 
--- src/lib.rt:170:1
 returns-4 : tie.Need-returns-4
 returns-4 c = search needs
 
--- src/lib.rt:170:1
 returns-5 : tie.Need-returns-5
 returns-5 c = search needs
 
--- src/lib.rt:170:1
 returns-6 : tie.Need-returns-6
 returns-6 c = search needs
 
--- src/lib.rt:170:1
 returns-7 : tie.Need-returns-7
-returns-7 c = search needs
+returns-7 c = rw (c .before .enum-told9 .given .1, c .before .before .before .enum-told6 .given .1) (c .is-at-most2 .ensures)
 
 pub is-tighter-spec : {M : Type 1} → statement M
 is-tighter-spec =

@@ -1,13 +1,11 @@
-use borrow.Author.Needs.{needs}
+-- `constraint::is_whole` meets its contract: the denominator's bits are those of 1.
 use native.Mathlib.Omega.{arith}
 use Rattle.constraint.proofs.is_whole.Statement.{statement}
 use Rattle.constraint.proofs.is_whole.Tie as tie
-use Rattle.constraint.proofs.is_whole.Reads as reads
-use Rattle.constraint.proofs.is_whole.Lts as lts
+use Rattle.constraint.proofs.Numbers.{is-number}
 
--- src/lib.rt:57:1
 returns : tie.Need-returns
-returns c = ?
+returns c = is-number (c .before .before .args .f .den) 1 (c .struct-told .given .1 .0 .1) (omega arith)
 
 pub is-whole-spec : {M : Type 1} → statement M
 is-whole-spec = tie.close (tie.spec returns)

@@ -1,13 +1,11 @@
-use borrow.Author.Needs.{needs}
+-- `constraint::is_zero` meets its contract: the numerator's bits are those of 0.
 use native.Mathlib.Omega.{arith}
 use Rattle.constraint.proofs.is_zero.Statement.{statement}
 use Rattle.constraint.proofs.is_zero.Tie as tie
-use Rattle.constraint.proofs.is_zero.Reads as reads
-use Rattle.constraint.proofs.is_zero.Lts as lts
+use Rattle.constraint.proofs.Numbers.{is-number}
 
--- src/lib.rt:63:1
 returns : tie.Need-returns
-returns c = search needs
+returns c = is-number (c .before .before .args .f .num) 0 (c .struct-told .given .0 .1) (omega arith)
 
 pub is-zero-spec : {M : Type 1} → statement M
 is-zero-spec = tie.close (tie.spec returns)

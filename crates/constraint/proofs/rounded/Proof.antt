@@ -1,52 +1,47 @@
+-- `constraint::rounded` meets its contract: a right side is rounded by `floor` or `ceiling`, whose results are stated.
+use mathlib.Core.Path.{_∙_, ap}
 use borrow.Author.Needs.{needs}
-use native.Mathlib.Omega.{arith}
 use Rattle.constraint.proofs.rounded.Statement.{statement}
 use Rattle.constraint.proofs.rounded.Tie as tie
-use Rattle.constraint.proofs.rounded.Reads as reads
-use Rattle.constraint.proofs.rounded.Lts as lts
 use Rattle.constraint.proofs.with_rounding.Reads as with-rounding-reads
 use Rattle.fraction.proofs.ceiling.Reads as ceiling-reads
 use Rattle.fraction.proofs.floor.Reads as floor-reads
+use Rattle.constraint.specs.Meaning.{senseIs, withRounding}
+use Rattle.constraint.proofs.Senses.{rounded-to, not-rounded}
 
--- src/lib.rt:271:25
 enum-told : tie.Need-enum-told
 enum-told c = search needs
 
--- src/lib.rt:272:43
 enum-told-2 : tie.Need-enum-told-2
 enum-told-2 c = search needs
 
--- src/lib.rt:272:43
 floor-requires : tie.Need-floor-requires
 floor-requires c κs = search needs
 
--- src/lib.rt:272:26
 with-rounding-requires : tie.Need-with-rounding-requires
 with-rounding-requires c κs = search needs
 
--- src/lib.rt:273:44
 enum-told-3 : tie.Need-enum-told-3
 enum-told-3 c = search needs
 
--- src/lib.rt:273:44
 ceiling-requires : tie.Need-ceiling-requires
 ceiling-requires c κs = search needs
 
--- src/lib.rt:273:27
 with-rounding-requires-2 : tie.Need-with-rounding-requires-2
 with-rounding-requires-2 c κs = search needs
 
--- src/lib.rt:266:1
 returns : tie.Need-returns
-returns c = search needs
+returns c = not-rounded _ (ap senseIs (c .enum-told .given .1))
 
--- src/lib.rt:266:1
 returns-2 : tie.Need-returns-2
-returns-2 c = search needs
+returns-2 c =
+    rounded-to _ _ _ (rw (c .before .before .enum-told2 .given .1))
+    (c .with-rounding .ensures ∙ ap (withRounding _) (c .before .floor .ensures))
 
--- src/lib.rt:266:1
 returns-3 : tie.Need-returns-3
-returns-3 c = search needs
+returns-3 c =
+    rounded-to _ _ _ (rw (c .before .before .enum-told3 .given .1))
+    (c .with-rounding2 .ensures ∙ ap (withRounding _) (c .before .ceiling .ensures))
 
 pub rounded-spec : {M : Type 1} → statement M
 rounded-spec =

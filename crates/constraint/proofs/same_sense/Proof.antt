@@ -1,22 +1,19 @@
+-- `constraint::same_sense` meets its contract: each call gives its sense's number.
+use mathlib.Core.Path.{ap₂}
 use borrow.Author.Needs.{needs}
-use native.Mathlib.Omega.{arith}
+use lib.Dec.{eqb}
 use Rattle.constraint.proofs.same_sense.Statement.{statement}
 use Rattle.constraint.proofs.same_sense.Tie as tie
-use Rattle.constraint.proofs.same_sense.Reads as reads
-use Rattle.constraint.proofs.same_sense.Lts as lts
 use Rattle.constraint.proofs.sense_cell.Reads as sense-cell-reads
 
--- src/lib.rt:52:5
 sense-cell-requires : tie.Need-sense-cell-requires
-sense-cell-requires c κs = ?
+sense-cell-requires c κs = search needs
 
--- src/lib.rt:52:22
 sense-cell-requires-2 : tie.Need-sense-cell-requires-2
-sense-cell-requires-2 c κs = ?
+sense-cell-requires-2 c κs = search needs
 
--- src/lib.rt:49:1
 returns : tie.Need-returns
-returns c = ?
+returns c = ap₂ eqb (c .before .sense-cell .ensures) (c .sense-cell2 .ensures)
 
 pub same-sense-spec : {M : Type 1} → statement M
 same-sense-spec = tie.close (tie.spec sense-cell-requires sense-cell-requires-2 returns)

@@ -1,41 +1,35 @@
+-- `constraint::signed_multiplier` meets its contract: 0, the negated numerator or the numerator itself.
+use mathlib.Core.Path.{sym, _∙_}
 use borrow.Author.Needs.{needs}
-use native.Mathlib.Omega.{arith}
+use lib.IntN.{*ℤ-zero}
 use Rattle.constraint.proofs.signed_multiplier.Statement.{statement}
 use Rattle.constraint.proofs.signed_multiplier.Tie as tie
-use Rattle.constraint.proofs.signed_multiplier.Reads as reads
-use Rattle.constraint.proofs.signed_multiplier.Lts as lts
+use Rattle.integers.specs.Integers.{*ℤ-pos-one}
+use Rattle.constraint.proofs.Numbers.{cast-fits, copied, negated, negated-fits}
 
--- src/lib.rt:334:13
 cast-n : tie.Need-cast-n
-cast-n c = search needs
+cast-n c = cast-fits (c .before .args .factor .num) (c .struct-told .given .0 .1)
 
--- src/lib.rt:336:25
 enum-told : tie.Need-enum-told
 enum-told c = search needs
 
--- src/lib.rt:337:26
 enum-told-2 : tie.Need-enum-told-2
 enum-told-2 c = search needs
 
--- src/lib.rt:337:26
 sub-result : tie.Need-sub-result
-sub-result c = search needs
+sub-result c = negated-fits (c .before .before .before .args .factor .num) (c .before .before .struct-told .given .0 .1)
 
--- src/lib.rt:338:27
 enum-told-3 : tie.Need-enum-told-3
 enum-told-3 c = search needs
 
--- src/lib.rt:330:1
 returns : tie.Need-returns
-returns c = search needs
+returns c = rw (c .enum-told .given .1) (sym (*ℤ-zero (c .before .before .before .args .factor .num)))
 
--- src/lib.rt:330:1
 returns-2 : tie.Need-returns-2
-returns-2 c = search needs
+returns-2 c = rw (c .enum-told2 .given .1) (negated (c .before .before .before .args .factor .num) (c .before .before .struct-told .given .0 .1))
 
--- src/lib.rt:330:1
 returns-3 : tie.Need-returns-3
-returns-3 c = search needs
+returns-3 c = rw (c .enum-told3 .given .1) (copied (c .before .before .before .args .factor .num) (c .before .before .struct-told .given .0 .1) ∙ sym (*ℤ-pos-one (c .before .before .before .args .factor .num)))
 
 pub signed-multiplier-spec : {M : Type 1} → statement M
 signed-multiplier-spec =

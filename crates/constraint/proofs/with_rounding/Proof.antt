@@ -1,23 +1,18 @@
+-- `constraint::with_rounding` meets its contract: a whole number takes the place of the right side.
 use borrow.Author.Needs.{needs}
-use native.Mathlib.Omega.{arith}
 use Rattle.constraint.proofs.with_rounding.Statement.{statement}
 use Rattle.constraint.proofs.with_rounding.Tie as tie
-use Rattle.constraint.proofs.with_rounding.Reads as reads
-use Rattle.constraint.proofs.with_rounding.Lts as lts
+use Rattle.integers.proofs.Casts.{back-of}
 
--- src/lib.rt:256:25
 enum-known-rounding : tie.Need-enum-known-rounding
 enum-known-rounding c = search needs
 
--- src/lib.rt:261:35
 enum-told : tie.Need-enum-told
 enum-told c = search needs
 
--- src/lib.rt:252:1
 returns : tie.Need-returns
-returns c = search needs
+returns c = rw (c .before .rounding .given .1, back-of (c .before .rounding .given .0 .0) (c .known-told .given .0 .1))
 
--- src/lib.rt:252:1
 returns-2 : tie.Need-returns-2
 returns-2 c = search needs
 

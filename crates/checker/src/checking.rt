@@ -36,8 +36,10 @@ fn frame_of(index: &[u16], places: Places) -> Frame
     let variables = index[0] as usize;
     let maximize = index[2 + c] == 1;
     let given = index[4 + c + count] as usize;
-    let solutions = index[places.solutions] as usize;
-    let derived = index[places.derivations] as usize;
+    let cell = places.solutions;
+    let solutions = index[cell] as usize;
+    let cell = places.derivations;
+    let derived = index[cell] as usize;
     let objective = Pairs {
         cell: 4 + c,
         number: 0,
@@ -87,7 +89,10 @@ fn check_proof(
     if claims::is_proved(index, values, rows, frame) {
         Verdict::Fine
     } else {
-        Verdict::Refused(Refusal::ClaimNotProved, last_place(index, values, rows, frame, word))
+        Verdict::Refused(
+            Refusal::ClaimNotProved,
+            last_place(index, values, rows, frame, word),
+        )
     }
 }
 
@@ -102,7 +107,7 @@ pub(crate) fn check(index: &[u16], values: &[i32], rows: &[u16], places: Places)
         return v;
     };
     let bound = claims::end_to_reach(index, values, rows, frame);
-    match objectives::objectives(index, values, rows, frame, bound.value) {
+    match objectives::objectives_of(index, values, rows, frame, bound.value) {
         Objectives::TooWide(place) => Verdict::Refused(Refusal::ResultTooWide, place),
         Objectives::Found(best) => {
             if bound.finite & !best.reached {

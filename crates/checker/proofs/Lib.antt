@@ -1,0 +1,2 @@
+-- Laws that the proofs of checking cite: what the tables list, and folds over it.
+pub mod TablesLaws
