@@ -90,10 +90,9 @@ fn check_rows(
     ensures { λ c. ⌜ ((tree : Tree) (s : Solution) → Stands tree frame (now (index .entry)) (now (values .entry)) (now (rows .entry)) → coefficientsOf point ≡ valueIn (s .values .terms) → checkSays (s .name .place) c ≡ each (checkRow tree s) (tree .constraints .rows)) ⌝ }
 {
     let given = frame.given;
-    let objective = frame.objective;
     let mut r = 0;
     while r < given {
-        let c = check_row(index, values, rows, objective, r, point);
+        let c = check_row(index, values, rows, frame.objective, r, point);
         let Check::Fine = c else {
             return c;
         };
