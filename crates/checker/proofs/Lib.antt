@@ -1,2 +1,3 @@
--- Laws that the proofs of checking cite: what the tables list, and folds over it.
+-- Laws that the proofs of checking cite: what the tables list, folds over it, and combinations of rows.
 pub mod TablesLaws
+pub mod CombinationLaws

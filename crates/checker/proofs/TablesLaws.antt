@@ -4,7 +4,7 @@
 use mathlib.Core.Path.{_≡_, refl, sym, ap, ap₂, subst, _∙_}
 use mathlib.Core.Bool.{Bool, true, false, cond, _||_}
 use mathlib.Core.List.{List, [], _∷_}
-use Prim.Native.Nat.{ℕ, zero, suc, _+_, _*_, _-_, _≤_, _<_}
+use Prim.Native.Nat.{ℕ, zero, suc, _+_, _-_, _≤_, _<_}
 use native.Mathlib.Nat.{add-zero, sub-zero, zero-lt-suc, not-suc-le-zero, le-of-suc-le-suc}
 use native.Mathlib.Numerals.{sub-one}
 use native.Mathlib.Omega.{arith}
@@ -16,15 +16,16 @@ use lib.Seq.{getD-set-same, getD-set-other}
 use Rattle.fraction.specs.Laws.{zeroF}
 use Rattle.fraction.specs.declared.Fraction.{Fraction}
 use Rattle.grammar.specs.Certificate.{senseCell}
-use Rattle.grammar.specs.Tree.{Sense, equal, atMost, atLeast, Tree}
+use Rattle.grammar.specs.Tree.{Sense, equal, atMost, atLeast, Row, Tree}
 use Rattle.rules.specs.Tests.{someOf}
 use Rattle.rules.specs.Result.{Result, done, refused, bind, through}
-use Rattle.rules.specs.Rows.{valueIn}
+use Rattle.rules.specs.Rows.{valueIn, termsOf, constraintOf}
 use Rattle.rules.specs.Rounding.{isInteger}
 use Rattle.rules.specs.Combinations.{withCoefficient}
-use Rattle.constraint.specs.Meaning.{coefficientsOf, marked}
-use Rattle.checker.specs.Tables.{fractionAt, listedAt, aTerm, Listed, pairsFrom, sideAt, ownTerms, reasonAt, reasonValuesAt, afterWord, lastAt}
-use Rattle.checker.specs.Held.{IntegersStand}
+use Rattle.constraint.specs.Meaning.{senseIs, coefficientsOf, meant, marked}
+use Rattle.constraint.specs.declared.Constraint.{Constraint}
+use Rattle.checker.specs.Tables.{fractionAt, listedAt, aTerm, termsAt, Listed, pairsFrom, sideAt, ownTerms, reasonAt, reasonValuesAt, afterWord, lastAt}
+use Rattle.checker.specs.Held.{numberOf, sideOf, RowStands, IntegersStand}
 use Rattle.checker.specs.declared.tables.Pairs.{Pairs}
 
 -- ---- arrays
@@ -79,6 +80,10 @@ module _ {index : List ℕ} {values : List ℤ} {bound : ℕ} where
         small = λ k l. let q : cell + (k + 1) ≡ cell + 1 + k = omega arith in subst (λ (j : ℕ). getD index j 0 < bound) q (g .small (k + 1) (omega arith));
       }
 
+  -- of pairs that were computed, as of those that are meant
+  pub listed-same : {p q : Pairs} → p ≡ q → Listed index values bound q → Listed index values bound p
+  listed-same e g = subst (Listed index values bound) (sym e) g
+
 module _ {A : Type 0} (make : ℕ → Fraction → A) (index : List ℕ) (values : List ℤ) where
   pub listed-next : (cell n left : ℕ) → 0 < left
       → listedAt make index values cell n left ≡ make (getD index cell 0) (fractionAt values n) ∷ listedAt make index values (cell + 1) (n + 1) (left - 1)
@@ -101,24 +106,13 @@ module _ {A : Type 0} (make : ℕ → Fraction → A) (index : List ℕ) (values
       let k : count - (left - 1) - 1 ≡ count - left = omega arith in
       rw (c, m, k) at (listed-next (cell + (left - 1)) (n + (left - 1)) (count - (left - 1)) (omega arith))
 
-  -- a state that goes through listed pairs
+  -- a state that goes through listed pairs, by what comes of the first
   module _ {S : Type 0} (step : S → A → Result S) where
-    pub through-next : (s : S) (cell n left : ℕ) → 0 < left
-        → through step s (listedAt make index values cell n left)
-        ≡ bind (step s (make (getD index cell 0) (fractionAt values n))) (λ (t : S). through step t (listedAt make index values (cell + 1) (n + 1) (left - 1)))
-    through-next s cell n left h = ap (through step s) (listed-next cell n left h)
-
-    -- the next state is t
-    pub through-on : (s t : S) (cell n left : ℕ) → 0 < left → step s (make (getD index cell 0) (fractionAt values n)) ≡ done t
-        → through step s (listedAt make index values cell n left) ≡ through step t (listedAt make index values (cell + 1) (n + 1) (left - 1))
-    through-on s t cell n left h e =
-        through-next s cell n left h ∙ ap (λ (r : Result S). bind r (λ (t : S). through step t (listedAt make index values (cell + 1) (n + 1) (left - 1)))) e
-
-    -- the step refuses
-    pub through-stop : (s : S) (cell n left reason place : ℕ) → 0 < left → step s (make (getD index cell 0) (fractionAt values n)) ≡ refused reason place
-        → through step s (listedAt make index values cell n left) ≡ refused reason place
-    through-stop s cell n left reason place h e =
-        through-next s cell n left h ∙ ap (λ (r : Result S). bind r (λ (t : S). through step t (listedAt make index values (cell + 1) (n + 1) (left - 1)))) e
+    pub through-is : (s : S) (cell n left : ℕ) → 0 < left → {r : Result S} → step s (make (getD index cell 0) (fractionAt values n)) ≡ r
+        → through step s (listedAt make index values cell n left) ≡ bind r (λ (t : S). through step t (listedAt make index values (cell + 1) (n + 1) (left - 1)))
+    through-is s cell n left h e =
+        ap (through step s) (listed-next cell n left h)
+        ∙ ap (λ (r : Result S). bind r (λ (t : S). through step t (listedAt make index values (cell + 1) (n + 1) (left - 1)))) e
 
     pub through-end : (s : S) (cell n left : ℕ) → left ≤ 0 → through step s (listedAt make index values cell n left) ≡ done s
     through-end s cell n left h = ap (through step s) (listed-none cell n left h)
@@ -134,13 +128,13 @@ module _ {A I S : Type 0} (make : ℕ → Fraction → A) (index : List ℕ) (va
       → Going t (cell + 1) (n + 1) (left - 1)
   going-on s t cell n left g h e =
       record {
-        same = λ i. sym (through-on make index values (step i) s t cell n left h (e i)) ∙ g .same i;
+        same = λ i. sym (through-is make index values (step i) s cell n left h (e i)) ∙ g .same i;
         listed = listed-on (g .listed) h;
       }
 
   pub going-stop : (s : S) (cell n left : ℕ) → Going s cell n left → 0 < left → (i : I) (reason place : ℕ)
       → step i s (make (getD index cell 0) (fractionAt values n)) ≡ refused reason place → refused reason place ≡ target i
-  going-stop s cell n left g h i reason place e = sym (through-stop make index values (step i) s cell n left reason place h e) ∙ g .same i
+  going-stop s cell n left g h i reason place e = sym (through-is make index values (step i) s cell n left h e) ∙ g .same i
 
   pub going-end : (s : S) (cell n left : ℕ) → Going s cell n left → left ≤ 0 → (i : I) → done s ≡ target i
   going-end s cell n left g h i = sym (through-end make index values (step i) s cell n left h) ∙ g .same i
@@ -180,7 +174,7 @@ module _ (index : List ℕ) (values : List ℤ) (p : Pairs) where
 
   pub spread-end : (all : List Fraction) (left : ℕ) → Spread index values p all left → left ≤ 0
       → coefficientsOf all ≡ valueIn (listedAt aTerm index values (p .cell) (p .number) (p .count))
-  spread-end all zero g h = rw (add-zero, add-zero, sub-zero) at (g .same)
+  spread-end all zero g h = rw (add-zero (p .cell), add-zero (p .number), sub-zero (p .count)) at (g .same)
   spread-end all (suc left) g h = absurd (not-suc-le-zero h)
 
 -- ---- integer variables
@@ -317,3 +311,18 @@ pub sense-other : {cell : ℕ} (s : Sense) → (cell ≡ 0 → ⊥) → (cell �
 sense-other equal a b e = absurd (a e)
 sense-other atMost a b e = absurd (b e)
 sense-other atLeast a b e = refl
+
+-- ---- a row that stands in the tables
+
+module _ {tree : Tree} {index : List ℕ} {values : List ℤ} {rows : List ℕ} {objective : Pairs} {r : ℕ} {row : Row} (g : RowStands tree index values rows objective r row) where
+  pub terms-stand : {side : Pairs} → side ≡ sideOf index rows objective r → termsAt index values side ≡ termsOf tree row
+  terms-stand e = ap (termsAt index values) e ∙ g .terms-are
+
+  pub constraint-is : {side : Pairs} (c : Constraint) → side ≡ sideOf index rows objective r → senseIs (c .sense) ≡ row .sense
+      → coefficientsOf (c .coefficients) ≡ valueIn (termsAt index values side) → c .right ≡ fractionAt values (numberOf rows r)
+      → meant c ≡ constraintOf tree row
+  unfolding constraintOf
+  constraint-is c e s k n =
+      let coefficient = k ∙ ap valueIn (terms-stand e) in
+      let right = n ∙ g .right-is in
+      λ i. record { sense = s i; coefficient = coefficient i; right = right i }

@@ -1,12 +1,11 @@
-use Rattle.checker.proofs.TablesLaws.{MarksFirst, marks-start, marks-on, marks-end}
+-- `checker::tables::integers_at` meets its contract: the marks of the variables listed so far.
 use Prim.Native.Nat.{_+_, _-_, _≤_, _<_}
-use lib.ListN.{getD}
-use borrow.Author.Needs.{needs}
 use native.Mathlib.Omega.{arith}
+use borrow.Author.Needs.{needs}
+use lib.ListN.{getD}
+use Rattle.checker.proofs.TablesLaws.{MarksFirst, marks-start, marks-on, marks-end}
 use Rattle.checker.proofs.tables.integers_at.Statement.{statement}
 use Rattle.checker.proofs.tables.integers_at.Tie as tie
-use Rattle.checker.proofs.tables.integers_at.Reads as reads
-use Rattle.checker.proofs.tables.integers_at.Lts as lts
 
 abbrev Inv-loop : tie.InvT-loop
 Inv-loop index marks₀ count k₀ marks k = (k ≤ count) × MarksFirst index marks k
@@ -18,53 +17,41 @@ abbrev μ-loop : tie.MeasureT-loop
 small : (c : tie.In-loop Inv-loop μ-loop) → getD (c .before .before .before .args .index .now) (2 + c .before .loop .k) 0 < 256
 small c = let s = c .before .before .before .pre .1 in s .small (c .before .loop .k) (omega (arith, c .loop-test .taken, s .count-is))
 
--- src/tables.rt:186:17
 shared-slice-read-count : tie.Need-shared-slice-read-count Inv-loop μ-loop
 shared-slice-read-count c = search needs
 
--- src/tables.rt:186:17
 cast-count : tie.Need-cast-count Inv-loop μ-loop
 cast-count c = search needs
 
--- src/tables.rt:188:5
 loop-holds : tie.Need-loop-holds Inv-loop μ-loop
 loop-holds c = (omega arith, marks-start _)
 
--- src/tables.rt:189:23
 add-v : tie.Need-add-v Inv-loop μ-loop
 add-v c = search needs
 
--- src/tables.rt:189:17
 mul-v : tie.Need-mul-v Inv-loop μ-loop
 mul-v c = search needs
 
--- src/tables.rt:189:17
 shared-slice-read-v : tie.Need-shared-slice-read-v Inv-loop μ-loop
 shared-slice-read-v c = search needs
 
--- src/tables.rt:189:17
 cast-v : tie.Need-cast-v Inv-loop μ-loop
 cast-v c = omega (arith, small (c .before))
 
--- src/tables.rt:190:9
 array-write-marks : tie.Need-array-write-marks Inv-loop μ-loop
 array-write-marks c = omega (arith, small (c .before))
 
--- src/tables.rt:191:9
 add-k : tie.Need-add-k Inv-loop μ-loop
 add-k c = search needs
 
--- src/tables.rt:188:5
 loop-less : tie.Need-loop-less Inv-loop μ-loop
 loop-less c = search needs
 
--- src/tables.rt:188:5
 loop-again : tie.Need-loop-again Inv-loop μ-loop
 loop-again c =
     let l = c .before .before in
     (omega (arith, c .before .loop-test .taken), marks-on (l .before .before .args .index .now) (l .loop .marks) (l .loop .k) (l .loop .inv .1) (small (c .before)))
 
--- src/tables.rt:181:1
 returns : tie.Need-returns Inv-loop μ-loop
 returns c =
     let l = c .before in

@@ -1,15 +1,14 @@
-use lib.ListN.{getD}
+-- `checker::tables::last_at` meets its contract: the cell after the reason, by its word.
 use mathlib.Core.Path.{_≡_}
 use mathlib.Core.List.{List}
 use Prim.Native.Nat.{ℕ, _+_}
+use native.Mathlib.Omega.{arith}
+use borrow.Author.Needs.{needs}
+use lib.ListN.{getD}
 use Rattle.checker.specs.Tables.{afterWord}
 use Rattle.checker.proofs.TablesLaws.{after-uns, after-lin, after-rnd, after-none, last-is}
-use borrow.Author.Needs.{needs}
-use native.Mathlib.Omega.{arith}
 use Rattle.checker.proofs.tables.last_at.Statement.{statement}
 use Rattle.checker.proofs.tables.last_at.Tie as tie
-use Rattle.checker.proofs.tables.last_at.Reads as reads
-use Rattle.checker.proofs.tables.last_at.Lts as lts
 
 abbrev index : tie.Start → List ℕ
 index s = s .args .index .now
@@ -30,99 +29,75 @@ rnd-after c = after-rnd _ _ (c .before .before .before .if1 .left) (c .before .i
 none-after : (c : tie.Else3) → afterWord (index (c .before .before .before .before .before)) (c .before .before .before .before .before .args .cell) ≡ 0
 none-after c = after-none _ _ (c .before .before .before .if1 .left) (c .before .if2 .left) (c .if3 .left)
 
--- src/tables.rt:166:16
 mul-word : tie.Need-mul-word
 mul-word c = search needs
 
--- src/tables.rt:166:16
 shared-slice-read-word : tie.Need-shared-slice-read-word
 shared-slice-read-word c = search needs
 
--- src/tables.rt:168:22
 add-result : tie.Need-add-result
 add-result c = search needs
 
--- src/tables.rt:168:16
 mul-result : tie.Need-mul-result
 mul-result c = search needs
 
--- src/tables.rt:168:16
 shared-slice-read-result : tie.Need-shared-slice-read-result
 shared-slice-read-result c = omega (arith, c .before .before .before .pre, uns-after (c .before))
 
--- src/tables.rt:168:16
 cast-result : tie.Need-cast-result
 cast-result c = omega (arith, c .shared-slice-known2 .given (c .before .before .before .args .cell + 5))
 
--- src/tables.rt:168:9
 returns : tie.Need-returns
 returns c = last-is (index (c .before .before .before)) (c .before .before .before .args .cell) (c .before .before .before .args .cell + 5) (omega (arith, uns-after (c .before)))
 
--- src/tables.rt:170:23
 add-count : tie.Need-add-count
 add-count c = search needs
 
--- src/tables.rt:170:17
 mul-count : tie.Need-mul-count
 mul-count c = search needs
 
--- src/tables.rt:170:17
 shared-slice-read-count : tie.Need-shared-slice-read-count
 shared-slice-read-count c = search needs
 
--- src/tables.rt:170:17
 cast-count : tie.Need-cast-count
 cast-count c = omega (arith, c .shared-slice-known3 .given (c .before .before .before .args .cell + 1))
 
--- src/tables.rt:172:22
 add-result-2 : tie.Need-add-result-2
 add-result-2 c = search needs
 
--- src/tables.rt:172:22
 add-result-3 : tie.Need-add-result-3
 add-result-3 c = omega (arith, c .before .before .before .before .pre, lin-after c)
 
--- src/tables.rt:172:16
 mul-result-2 : tie.Need-mul-result-2
 mul-result-2 c = omega (arith, c .before .before .before .before .pre, lin-after c)
 
--- src/tables.rt:172:16
 shared-slice-read-result-2 : tie.Need-shared-slice-read-result-2
 shared-slice-read-result-2 c = omega (arith, c .before .before .before .before .before .pre, lin-after (c .before))
 
--- src/tables.rt:172:16
 cast-result-2 : tie.Need-cast-result-2
 cast-result-2 c = omega (arith, c .shared-slice-known4 .given (c .before .before .before .before .before .args .cell + 2 + counted (c .before .before .before .before .before)))
 
--- src/tables.rt:172:9
 returns-2 : tie.Need-returns-2
 returns-2 c = last-is (index (c .before .before .before .before .before)) (c .before .before .before .before .before .args .cell) (c .before .before .before .before .before .args .cell + 2 + counted (c .before .before .before .before .before)) (omega (arith, lin-after (c .before)))
 
--- src/tables.rt:175:22
 add-result-4 : tie.Need-add-result-4
 add-result-4 c = search needs
 
--- src/tables.rt:175:22
 add-result-5 : tie.Need-add-result-5
 add-result-5 c = omega (arith, c .before .before .before .before .before .pre, rnd-after c)
 
--- src/tables.rt:175:16
 mul-result-3 : tie.Need-mul-result-3
 mul-result-3 c = omega (arith, c .before .before .before .before .before .pre, rnd-after c)
 
--- src/tables.rt:175:16
 shared-slice-read-result-3 : tie.Need-shared-slice-read-result-3
 shared-slice-read-result-3 c = omega (arith, c .before .before .before .before .before .before .pre, rnd-after (c .before))
 
--- src/tables.rt:175:16
 cast-result-3 : tie.Need-cast-result-3
 cast-result-3 c = omega (arith, c .shared-slice-known5 .given (c .before .before .before .before .before .before .args .cell + 2 + counted (c .before .before .before .before .before .before)))
 
--- src/tables.rt:175:9
 returns-3 : tie.Need-returns-3
 returns-3 c = last-is (index (c .before .before .before .before .before .before)) (c .before .before .before .before .before .before .args .cell) (c .before .before .before .before .before .before .args .cell + 2 + counted (c .before .before .before .before .before .before)) (omega (arith, rnd-after (c .before)))
 
--- src/tables.rt:162:1
 returns-4 : tie.Need-returns-4
 returns-4 c = last-is (index (c .before .before .before .before .before)) (c .before .before .before .before .before .args .cell) (c .before .before .before .before .before .args .cell + 1) (omega (arith, none-after c))
 

@@ -1,15 +1,11 @@
-use Rattle.checker.proofs.TablesLaws.{own-few, pairs-on}
+-- `checker::tables::multipliers_at` meets its contract: the pairs after the reason's word.
 use Prim.Native.Nat.{ℕ, _+_, _*_, _<_}
-use mathlib.Core.Path.{_∙_, ap}
-use lib.ListN.{getD}
-use borrow.Author.Needs.{needs}
 use native.Mathlib.Omega.{arith}
+use borrow.Author.Needs.{needs}
+use lib.ListN.{getD}
+use Rattle.checker.proofs.TablesLaws.{own-few, pairs-on}
 use Rattle.checker.proofs.tables.multipliers_at.Statement.{statement}
 use Rattle.checker.proofs.tables.multipliers_at.Tie as tie
-use Rattle.checker.proofs.tables.multipliers_at.Reads as reads
-use Rattle.checker.proofs.tables.multipliers_at.Lts as lts
-use Rattle.checker.proofs.tables.own_terms.Reads as own-terms-reads
-use Rattle.checker.proofs.tables.pairs_at.Reads as pairs-at-reads
 
 abbrev start : tie.After-own-terms → tie.Start
 start c = c .before .before .before .before .before
@@ -20,75 +16,57 @@ cell c = getD (start c .args .rows .now) (4 * start c .args .r + 2) 0
 own-small : (c : tie.After-own-terms) → c .own-terms .result < 65536
 own-small c = omega (arith, c .own-terms .ensures, own-few (start c .args .index .now) (cell c), c .before .before .before .before .shared-slice-known .given (cell c + 1))
 
--- src/tables.rt:155:21
 mul-cell : tie.Need-mul-cell
 mul-cell c = search needs
 
--- src/tables.rt:155:21
 add-cell : tie.Need-add-cell
 add-cell c = search needs
 
--- src/tables.rt:155:16
 mul-cell-2 : tie.Need-mul-cell-2
 mul-cell-2 c = search needs
 
--- src/tables.rt:155:16
 shared-slice-read-cell : tie.Need-shared-slice-read-cell
 shared-slice-read-cell c = search needs
 
--- src/tables.rt:155:16
 cast-cell : tie.Need-cast-cell
 cast-cell c = search needs
 
--- src/tables.rt:156:23
 mul-number : tie.Need-mul-number
 mul-number c = search needs
 
--- src/tables.rt:156:23
 add-number : tie.Need-add-number
 add-number c = search needs
 
--- src/tables.rt:156:18
 mul-number-2 : tie.Need-mul-number-2
 mul-number-2 c = search needs
 
--- src/tables.rt:156:18
 shared-slice-read-number : tie.Need-shared-slice-read-number
 shared-slice-read-number c = search needs
 
--- src/tables.rt:156:18
 cast-number : tie.Need-cast-number
 cast-number c = omega (arith, c .shared-slice-known4 .given (4 * c .before .before .before .before .args .r + 3))
 
--- src/tables.rt:157:9
 own-terms-requires : tie.Need-own-terms-requires
 own-terms-requires c κs = search needs
 
--- src/tables.rt:158:21
 add-pairs-at : tie.Need-add-pairs-at
 add-pairs-at c = search needs
 
--- src/tables.rt:158:21
 add-pairs-at-2 : tie.Need-add-pairs-at-2
 add-pairs-at-2 c = search needs
 
--- src/tables.rt:158:21
 add-pairs-at-3 : tie.Need-add-pairs-at-3
 add-pairs-at-3 c = search needs
 
--- src/tables.rt:158:41
 add-pairs-at-4 : tie.Need-add-pairs-at-4
 add-pairs-at-4 c = omega (arith, own-small c, c .before .shared-slice-known4 .given (4 * start c .args .r + 3))
 
--- src/tables.rt:158:41
 add-pairs-at-5 : tie.Need-add-pairs-at-5
 add-pairs-at-5 c = omega (arith, own-small c, c .before .shared-slice-known4 .given (4 * start c .args .r + 3))
 
--- src/tables.rt:158:5
 pairs-at-requires : tie.Need-pairs-at-requires
 pairs-at-requires c κs = search needs
 
--- src/tables.rt:151:1
 returns : tie.Need-returns
 returns c = pairs-on _ _ _ _ (c .pairs-at .ensures) (c .before .own-terms .ensures)
 

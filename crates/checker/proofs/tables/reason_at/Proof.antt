@@ -1,52 +1,41 @@
-use Rattle.checker.proofs.TablesLaws.{own-few}
+-- `checker::tables::reason_at` meets its contract: the cell after a row's own terms.
 use Prim.Native.Nat.{ℕ, _+_, _*_}
-use lib.ListN.{getD}
-use borrow.Author.Needs.{needs}
 use native.Mathlib.Omega.{arith}
+use borrow.Author.Needs.{needs}
+use lib.ListN.{getD}
+use Rattle.checker.proofs.TablesLaws.{own-few}
 use Rattle.checker.proofs.tables.reason_at.Statement.{statement}
 use Rattle.checker.proofs.tables.reason_at.Tie as tie
-use Rattle.checker.proofs.tables.reason_at.Reads as reads
-use Rattle.checker.proofs.tables.reason_at.Lts as lts
-use Rattle.checker.proofs.tables.own_terms.Reads as own-terms-reads
 
 abbrev cell : tie.After-own-terms → ℕ
 cell c = getD (c .before .before .before .before .args .rows .now) (4 * c .before .before .before .before .args .r + 2) 0
 
--- src/tables.rt:146:21
 mul-cell : tie.Need-mul-cell
 mul-cell c = search needs
 
--- src/tables.rt:146:21
 add-cell : tie.Need-add-cell
 add-cell c = search needs
 
--- src/tables.rt:146:16
 mul-cell-2 : tie.Need-mul-cell-2
 mul-cell-2 c = search needs
 
--- src/tables.rt:146:16
 shared-slice-read-cell : tie.Need-shared-slice-read-cell
 shared-slice-read-cell c = search needs
 
--- src/tables.rt:146:16
 cast-cell : tie.Need-cast-cell
 cast-cell c = search needs
 
--- src/tables.rt:147:5
 add-result : tie.Need-add-result
 add-result c = search needs
 
--- src/tables.rt:147:16
 own-terms-requires : tie.Need-own-terms-requires
 own-terms-requires c κs = search needs
 
--- src/tables.rt:147:5
 add-result-2 : tie.Need-add-result-2
 add-result-2 c =
     let s = c .before .before .before .before in
     omega (arith, c .own-terms .ensures, own-few (s .args .index .now) (cell c), c .before .before .before .shared-slice-known .given (cell c + 1), c .before .shared-slice-known3 .given (4 * s .args .r + 2))
 
--- src/tables.rt:142:1
 returns : tie.Need-returns
 returns c = search needs
 

@@ -1,13 +1,11 @@
-use borrow.Author.Needs.{needs}
-use native.Mathlib.Omega.{arith}
+-- `checker::combination::Combination::empty` meets its contract: each coefficient is 0.
+use Rattle.fraction.specs.Laws.{zeroF}
+use Rattle.checker.proofs.TablesLaws.{no-coefficients}
 use Rattle.checker.proofs.combination.Combination.empty.Statement.{statement}
 use Rattle.checker.proofs.combination.Combination.empty.Tie as tie
-use Rattle.checker.proofs.combination.Combination.empty.Reads as reads
-use Rattle.checker.proofs.combination.Combination.empty.Lts as lts
 
--- src/combination.rt:103:5
 returns : tie.Need-returns
-returns c = search needs
+returns c = λ i. record { coefficient = no-coefficients 256 i; right = zeroF }
 
 pub empty-spec : {M : Type 1} → statement M
 empty-spec = tie.close (tie.spec returns)

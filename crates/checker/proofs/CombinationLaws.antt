@@ -1,0 +1,124 @@
+-- Products and sums, one term, one row and all rows of a combination: what the code's answers say of each.
+-- Assumes nothing.
+use mathlib.Core.Path.{_≡_, refl, sym, ap, _∙_}
+use mathlib.Core.Bool.{Bool, true, false, not}
+use mathlib.Core.List.{List}
+use mathlib.Core.Logic.{_⊎_, inl, inr}
+use Prim.Native.Nat.{ℕ, _<_}
+use native.Mathlib.Omega.{arith}
+use borrow.Author.Tests.{not-true, not-false}
+use denote.Enum.Declared.{tagOf}
+use lib.IntN.{ℤ}
+use lib.ListN.{length, getD, set}
+use Rattle.fraction.specs.Outcome.{Outcome}
+use Rattle.fraction.specs.Fraction.{arithmeticSays}
+use Rattle.fraction.proofs.Arithmetic.{the-type}
+use Rattle.fraction.specs.declared.Arithmetic.{Arithmetic}
+use Rattle.fraction.specs.declared.Arithmetic.the-variants.{Value, NotAFraction, TooWide}
+use Rattle.fraction.specs.declared.Fraction.{Fraction}
+use Rattle.grammar.specs.Tree.{Term, Multiplier, Tree}
+use Rattle.rules.specs.Result.{Result, done, refused, bind, through}
+use Rattle.rules.specs.Values.{within12, productAt, sumAt}
+use Rattle.rules.specs.Rows.{termsOf, rowAt}
+use Rattle.rules.specs.Combinations.{Combination, emptyCombination, withCoefficient, addMultiple, nextCombination, combine}
+use Rattle.constraint.specs.Meaning.{coefficientsOf}
+use Rattle.checker.specs.Tables.{aTerm, aMultiplier}
+use Rattle.checker.specs.Held.{RowsStand}
+use Rattle.checker.specs.Answers.{within}
+use Rattle.checker.specs.declared.tables.Pairs.{Pairs}
+use Rattle.checker.proofs.TablesLaws.{noFraction, coefficient-is, coefficient-set}
+
+-- ---- answers
+
+-- the answer of a product or a sum, at a place: it is a value; it is none
+abbrev pub says : ℕ → Arithmetic → Result Fraction
+says place a = within12 place (arithmeticSays a)
+
+pub value-is : {a : Arithmetic} {f : Fraction} {o : Outcome Fraction} → arithmeticSays a ≡ o → a ≡ Value f → (place : ℕ) → within12 place o ≡ done f
+value-is e v place = ap (within12 place) (sym e ∙ ap arithmeticSays v)
+
+pub is-refused : (a : Arithmetic) → (tagOf the-type a ≡ 1) ⊎ (tagOf the-type a ≡ 2) → (place : ℕ) → says place a ≡ refused 12 place
+is-refused (Value f) (inl e) place = absurd (omega (arith, e))
+is-refused (Value f) (inr e) place = absurd (omega (arith, e))
+is-refused NotAFraction h place = refl
+is-refused TooWide h place = refl
+
+-- what was worked out fits, or it does not
+module _ {A : Type 0} (place : ℕ) {o : Result A} (fits : Bool) (a : A) (e : within place fits a ≡ o) where
+  pub fits-is : not fits ≡ false → o ≡ done a
+  fits-is t = sym e ∙ ap (λ (b : Bool). within place b a) (not-false fits t)
+
+  pub fits-not : not fits ≡ true → o ≡ refused 12 place
+  fits-not t = sym e ∙ ap (λ (b : Bool). within place b a) (not-true fits t)
+
+-- ---- a sum and a product more
+
+abbrev pub plusProduct : ℕ → Fraction → Fraction → Fraction → Result Fraction
+plusProduct place sum a b = bind (productAt place a b) (λ p. sumAt place sum p)
+
+bind-assoc : {A B C : Type 0} (r : Result A) (f : A → Result B) (g : B → Result C) → bind r (λ a. bind (f a) g) ≡ bind (bind r f) g
+bind-assoc (done a) f g = refl
+bind-assoc (refused reason place) f g = refl
+
+-- ---- one term
+
+abbrev pub termStep : Fraction → ℕ → (ℕ → Fraction) → Term → Result (ℕ → Fraction)
+termStep factor place coefficient t = addMultiple place factor coefficient t
+
+module _ (factor : Fraction) (all : List Fraction) (v : ℕ) {f g : Fraction} (h : v < length all) (e : f ≡ g) (place : ℕ) where
+  pub term-is : {r : Result Fraction} → plusProduct place (getD all v noFraction) factor f ≡ r
+      → termStep factor place (coefficientsOf all) (aTerm v g) ≡ bind r (λ s. done (withCoefficient v s (coefficientsOf all)))
+  term-is q =
+      ap (λ (x : Fraction). termStep factor place (coefficientsOf all) (aTerm v x)) (sym e)
+      ∙ bind-assoc (productAt place factor f) (λ p. sumAt place (coefficientsOf all v) p) (λ s. done (withCoefficient v s (coefficientsOf all)))
+      ∙ ap (λ (x : Fraction). bind (plusProduct place x factor f) (λ s. done (withCoefficient v s (coefficientsOf all)))) (sym (coefficient-is all v h))
+      ∙ ap (λ (r : Result Fraction). bind r (λ s. done (withCoefficient v s (coefficientsOf all)))) q
+
+  pub term-on : (s : Fraction) → plusProduct place (getD all v noFraction) factor f ≡ done s
+      → termStep factor place (coefficientsOf all) (aTerm v g) ≡ done (coefficientsOf (set all v s))
+  term-on s q = term-is q ∙ ap done (sym (coefficient-set all v s h))
+
+-- ---- one row
+
+module _ (place : ℕ) (factor : Fraction) (terms : List Term) (right : Fraction) (c : Combination) where
+  -- its right side, after its terms: in steps of the product and of the sum, and in one
+  abbrev sideThen : (ℕ → Fraction) → Result Combination
+  sideThen left = bind (productAt place factor right) (λ p. bind (sumAt place (c .right) p) (λ s. done (record { coefficient = left; right = s })))
+
+  abbrev rightSide : (ℕ → Fraction) → Result Combination
+  rightSide left = bind (plusProduct place (c .right) factor right) (λ s. done (record { coefficient = left; right = s }))
+
+  -- by what comes of its terms
+  pub next-is : {r : Result (ℕ → Fraction)} → through (addMultiple place factor) (c .coefficient) terms ≡ r → nextCombination place factor terms right c ≡ bind r rightSide
+  unfolding nextCombination
+  next-is {r} e = ap (λ (r : Result (ℕ → Fraction)). bind r sideThen) e ∙ go r
+    where
+      go : (r : Result (ℕ → Fraction)) → bind r sideThen ≡ bind r rightSide
+      go (done left) = bind-assoc (productAt place factor right) (λ p. sumAt place (c .right) p) (λ s. done (record { coefficient = left; right = s }))
+      go (refused reason at) = refl
+
+  -- and by what comes of its right side
+  pub right-is : (left : ℕ → Fraction) → through (addMultiple place factor) (c .coefficient) terms ≡ done left
+      → {r : Result Fraction} → plusProduct place (c .right) factor right ≡ r
+      → nextCombination place factor terms right c ≡ bind r (λ s. done (record { coefficient = left; right = s }))
+  right-is left e q = next-is e ∙ ap (λ (r : Result Fraction). bind r (λ s. done (record { coefficient = left; right = s }))) q
+
+-- ---- all rows
+
+-- a tree whose rows below a number stand in the tables, and a place
+pub record StandingAt (index : List ℕ) (values : List ℤ) (rows : List ℕ) (objective : Pairs) (own : ℕ) : Type 0 where
+  pub tree : Tree
+  pub stand : RowsStand tree index values rows objective own
+  pub place : ℕ
+
+module _ {index : List ℕ} {values : List ℤ} {rows : List ℕ} {objective : Pairs} {own : ℕ} where
+  -- one multiplier
+  abbrev pub rowStep : StandingAt index values rows objective own → Combination → Multiplier → Result Combination
+  rowStep g so-far m = nextCombination (g .place) (m .factor) (termsOf (g .tree) (rowAt (g .tree) (m .row))) (rowAt (g .tree) (m .row) .right) so-far
+
+  pub same-factor : (g : StandingAt index values rows objective own) (so-far : Combination) (r : ℕ) {a b : Fraction} → a ≡ b → rowStep g so-far (aMultiplier r a) ≡ rowStep g so-far (aMultiplier r b)
+  same-factor g so-far r e = ap (λ (f : Fraction). rowStep g so-far (aMultiplier r f)) e
+
+  pub all-rows : (g : StandingAt index values rows objective own) {c : Combination} (ms : List Multiplier) → c ≡ emptyCombination → through (rowStep g) c ms ≡ combine (g .tree) (g .place) ms
+  unfolding combine
+  all-rows g ms e = ap (λ (c : Combination). through (rowStep g) c ms) e
