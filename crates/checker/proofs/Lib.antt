@@ -2,3 +2,4 @@
 pub mod TablesLaws
 pub mod CombinationLaws
 pub mod SuitableLaws
+pub mod DerivationsLaws
