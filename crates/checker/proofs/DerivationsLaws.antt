@@ -1,10 +1,10 @@
 -- Derived rows in the tables: given and derived rows by their index, the rows that a reason names, and first refusals as the code
 -- finds them.
 -- Assumes nothing.
-use mathlib.Core.Path.{_≡_, refl, sym, _∙_, ap, ap₂, subst}
+use mathlib.Core.Path.{_≡_, refl, sym, _∙_, ap, subst}
 use mathlib.Core.Bool.{Bool, true, false, not, cond, _&&_}
 use mathlib.Core.List.{List, [], _∷_, map}
-use mathlib.Core.Option.{Option, none, some}
+use mathlib.Core.Option.{none, some}
 use Prim.Native.Nat.{ℕ, zero, suc, _+_, _*_, _-_, _≤_, _<_}
 use native.Mathlib.Nat.{add-zero, not-suc-le-zero}
 use native.Mathlib.Numerals.{sub-one}
@@ -14,6 +14,7 @@ use lib.IntN.{ℤ}
 use lib.ListN.{length, getD, drop, drop-of-length-le}
 use lib.Seq.{drop-cons}
 use Rattle.fraction.specs.declared.Fraction.{Fraction}
+use Rattle.fraction.specs.Fraction.{IsFraction}
 use Rattle.grammar.specs.Certificate.{isAssumption}
 use Rattle.grammar.specs.Contents.{lastCell}
 use Rattle.grammar.specs.Ranges.{LastInRange}
@@ -21,7 +22,6 @@ use Rattle.grammar.specs.Tree.{Direction, minimize, maximize, atMost, atLeast, 
 use Rattle.grammar.specs.Tree as grammar
 use Rattle.grammar.specs.Refusals.{refusalNumber}
 use Rattle.grammar.specs.declared.Refusal.{Refusal}
-use Rattle.fraction.specs.Fraction.{IsFraction}
 use Rattle.rules.specs.Result.{Result, done, refused, Verdict, fine, bind, _andThen_, require, each, eachFrom}
 use Rattle.rules.specs.Rows.{variables, Constraint, constraintOf, objectiveWith, givenRow, derivedRow, rowOf, noRow, entryAt, rowAt, valueIn}
 use Rattle.rules.specs.Domination.{dominates}
@@ -73,6 +73,11 @@ module _ {tree : Tree} {f : Frame} {index : List ℕ} {values : List ℤ} {rows 
   -- what finding a row's reason asks for
   pub row-found : (r : ℕ) → r < f .given + f .derived → (4 * r + 4 ≤ length rows) × (cellOf rows r + 1 < length index)
   row-found r h = (g .rows-stand r h .inside, g .rows-stand r h .cell-inside)
+
+  -- what finding its multipliers asks for
+  pub multipliers-found : (r : ℕ) → r < f .given + f .derived → reasonAt index (cellOf rows r) + 1 < length index
+      → (4 * r + 4 ≤ length rows) × (cellOf rows r + 1 < length index) × (reasonAt index (cellOf rows r) + 1 < length index)
+  multipliers-found r h l = (row-found r h .0, row-found r h .1, l)
 
   pub rows-below : (own : ℕ) → own < f .given + f .derived → RowsStand tree index values rows (f .objective) own
   rows-below own h = λ r l. g .rows-stand r (omega arith)
@@ -345,23 +350,25 @@ module _ {index : List ℕ} {values : List ℤ} {rows : List ℕ} {own cell : �
   pub asm-here : getD index cell 0 ≡ 0 → d .reason ≡ asm
   asm-here w = by-word 0 (d .reason) word-here w
 
-  pub lin-here : getD index cell 0 ≡ 1 → ListedHere lin index values rows own (d .reason)
-  lin-here w =
-      let b = by-word 1 (d .reason) word-here w in
-      let s = subst (ReasonStands index values own (reasonAt index (cellOf rows own)) (multipliersOf index rows own)) (b .1) (g .reason) in
+  abbrev stands-so : Reason → Type 0
+  stands-so = ReasonStands index values own (reasonAt index (cellOf rows own)) (multipliersOf index rows own)
+
+  listed-here : (make : MultiplierList → Reason) → ((ms : MultiplierList) → stands-so (make ms) → stands-so (lin ms))
+      → (ms : MultiplierList) × (d .reason ≡ make ms) → ListedHere make index values rows own (d .reason)
+  listed-here make same b =
+      let s = same (b .0) (subst stands-so (b .1) (g .reason)) in
       record { list = b .0; reason-is = b .1; inside = s .0; listed = s .1; are = s .2 }
 
+  pub lin-here : getD index cell 0 ≡ 1 → ListedHere lin index values rows own (d .reason)
+  lin-here w = listed-here lin (λ ms s. s) (by-word 1 (d .reason) word-here w)
+
   pub rnd-here : getD index cell 0 ≡ 2 → ListedHere rnd index values rows own (d .reason)
-  rnd-here w =
-      let b = by-word 2 (d .reason) word-here w in
-      let s = subst (ReasonStands index values own (reasonAt index (cellOf rows own)) (multipliersOf index rows own)) (b .1) (g .reason) in
-      record { list = b .0; reason-is = b .1; inside = s .0; listed = s .1; are = s .2 }
+  rnd-here w = listed-here rnd (λ ms s. s) (by-word 2 (d .reason) word-here w)
 
   pub uns-here : getD index cell 0 ≡ 3 → UnsplitHere index own cell (d .reason)
   uns-here w =
       let b = by-word 3 (d .reason) word-here w in
-      let s = subst (ReasonStands index values own (reasonAt index (cellOf rows own)) (multipliersOf index rows own)) (b .1) (g .reason) in
-      record { unsplit = b .0; reason-is = b .1; stands = subst (λ (k : ℕ). UnsplitStands index own k (b .0)) (sym e) s }
+      record { unsplit = b .0; reason-is = b .1; stands = subst (λ (k : ℕ). UnsplitStands index own k (b .0)) (sym e) (subst stands-so (b .1) (g .reason)) }
 
   pub sol-here : (getD index cell 0 ≡ 0 → ⊥) → (getD index cell 0 ≡ 1 → ⊥) → (getD index cell 0 ≡ 2 → ⊥) → (getD index cell 0 ≡ 3 → ⊥) → d .reason ≡ sol
   sol-here a b c d′ = by-other-word (d .reason) word-here a b c d′

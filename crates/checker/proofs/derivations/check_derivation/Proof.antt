@@ -1,37 +1,28 @@
+-- `checker::derivations::check_derivation` meets its contract: the rows that are named, then the reason.
 use mathlib.Core.Path.{_∙_}
+use borrow.Author.Needs.{needs}
 use Rattle.rules.specs.Derivations.{checkDerivation}
 use Rattle.checker.specs.Held.{derivationAt}
 use Rattle.checker.proofs.DerivationsLaws.{first-on, first-stop, row-derived, reason-row}
-use borrow.Author.Needs.{needs}
-use native.Mathlib.Omega.{arith}
 use Rattle.checker.proofs.derivations.check_derivation.Statement.{statement}
 use Rattle.checker.proofs.derivations.check_derivation.Tie as tie
-use Rattle.checker.proofs.derivations.check_derivation.Reads as reads
-use Rattle.checker.proofs.derivations.check_derivation.Lts as lts
-use Rattle.checker.proofs.derivations.check_named.Reads as check-named-reads
-use Rattle.checker.proofs.derivations.check_reason.Reads as check-reason-reads
 
--- src/derivations.rt:315:9
 check-named-requires : tie.Need-check-named-requires
 check-named-requires c κs = search needs
 
 enum-told : tie.Need-enum-told
 enum-told c = search needs
 
--- src/derivations.rt:317:9
 enum-told-2 : tie.Need-enum-told-2
 enum-told-2 c = search needs
 
--- src/derivations.rt:317:9
 returns : tie.Need-returns
 unfolding checkDerivation
-returns c =     λ tree os h v b. first-stop _ _ _ (c .before .before .check-named .ensures tree _ h _) _ (c .enum-told2 .given .1)
+returns c = λ tree os h v b. first-stop _ _ _ (c .before .before .check-named .ensures tree _ h _) _ (c .enum-told2 .given .1)
 
--- src/derivations.rt:319:5
 check-reason-requires : tie.Need-check-reason-requires
 check-reason-requires c κs = search needs
 
--- src/derivations.rt:303:1
 returns-2 : tie.Need-returns-2
 unfolding checkDerivation
 returns-2 c =

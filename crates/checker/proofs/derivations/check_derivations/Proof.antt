@@ -1,16 +1,14 @@
-use mathlib.Core.Path.{sym, _∙_, ap}
+-- `checker::derivations::check_derivations` meets its contract: what is left to check gives the same as all.
+use mathlib.Core.Path.{_∙_, ap}
 use Prim.Native.Nat.{ℕ, _+_, _*_, _-_}
+use native.Mathlib.Omega.{arith}
+use borrow.Author.Needs.{needs}
 use Rattle.rules.specs.Result.{eachFrom}
 use Rattle.rules.specs.Derivations.{checkDerivation}
 use Rattle.checker.specs.Held.{noDerivation}
 use Rattle.checker.proofs.DerivationsLaws.{rows-few, row-found, says-on, says-stop, Deriving, first-is, derivations-below, derivations-all, derived-place, from-on, from-stop, from-end, refused-at}
-use borrow.Author.Needs.{needs}
-use native.Mathlib.Omega.{arith}
 use Rattle.checker.proofs.derivations.check_derivations.Statement.{statement}
 use Rattle.checker.proofs.derivations.check_derivations.Tie as tie
-use Rattle.checker.proofs.derivations.check_derivations.Reads as reads
-use Rattle.checker.proofs.derivations.check_derivations.Lts as lts
-use Rattle.checker.proofs.derivations.check_derivation.Reads as check-derivation-reads
 
 abbrev Inv-loop : tie.InvT-loop
 Inv-loop index values rows frame integers best count k₀ k = Deriving index values rows frame integers best k
@@ -18,7 +16,6 @@ Inv-loop index values rows frame integers best count k₀ k = Deriving index val
 abbrev μ-loop : tie.MeasureT-loop
 μ-loop index values rows frame integers best count k₀ k = count - k
 
--- src/derivations.rt:336:5
 loop-holds : tie.Need-loop-holds Inv-loop μ-loop
 loop-holds c =
     record {
@@ -26,23 +23,18 @@ loop-holds c =
       same = λ tree os h v b. ap (λ (n : ℕ). eachFrom (checkDerivation tree os) n (tree .derivations .derivations)) (first-is h);
     }
 
--- src/derivations.rt:337:15
 check-derivation-requires : tie.Need-check-derivation-requires Inv-loop μ-loop
 check-derivation-requires c κs = search needs
 
--- src/derivations.rt:339:17
 enum-told : tie.Need-enum-told Inv-loop μ-loop
 enum-told c = search needs
 
--- src/derivations.rt:339:17
 add-k : tie.Need-add-k Inv-loop μ-loop
 add-k c = search needs
 
--- src/derivations.rt:336:5
 loop-less : tie.Need-loop-less Inv-loop μ-loop
 loop-less c = omega (arith, c .before .before .before .loop-test .taken)
 
--- src/derivations.rt:336:5
 loop-again : tie.Need-loop-again Inv-loop μ-loop
 loop-again c =
     let l = c .before .before .before .before .loop in
@@ -53,33 +45,26 @@ loop-again c =
           ∙ l .inv .same tree os h v b;
     }
 
--- src/derivations.rt:341:28
 enum-known-reason : tie.Need-enum-known-reason Inv-loop μ-loop
 enum-known-reason c = search needs
 
--- src/derivations.rt:342:39
 add-place : tie.Need-add-place Inv-loop μ-loop
 add-place c = omega (arith, rows-few (c .before .before .before .before .before .before .before .before .before .pre .1), c .before .before .before .before .before .loop-test .taken)
 
--- src/derivations.rt:342:34
 mul-place : tie.Need-mul-place Inv-loop μ-loop
 mul-place c = omega (arith, rows-few (c .before .before .before .before .before .before .before .before .before .pre .1), c .before .before .before .before .before .loop-test .taken)
 
--- src/derivations.rt:342:29
 mul-place-2 : tie.Need-mul-place-2 Inv-loop μ-loop
 mul-place-2 c = omega (arith, rows-few (c .before .before .before .before .before .before .before .before .before .pre .1), c .before .before .before .before .before .loop-test .taken)
 
--- src/derivations.rt:342:29
 shared-slice-read-place : tie.Need-shared-slice-read-place Inv-loop μ-loop
 shared-slice-read-place c =
     let s = c .before .before .before .before .before .before .before .before .before .before in
     omega (arith, row-found (s .pre .1) (s .args .frame .given + c .before .before .before .before .before .before .before .loop .k) (omega (arith, c .before .before .before .before .before .before .loop-test .taken)) .0)
 
--- src/derivations.rt:342:29
 cast-place : tie.Need-cast-place Inv-loop μ-loop
 cast-place c = omega (arith, c .shared-slice-known3 .given (4 * (c .before .before .before .before .before .before .before .before .before .before .args .frame .given + c .before .before .before .before .before .before .before .loop .k)))
 
--- src/derivations.rt:343:17
 returns : tie.Need-returns Inv-loop μ-loop
 returns c =
     λ tree os h v b.
@@ -88,7 +73,6 @@ returns c =
     (from-stop (checkDerivation tree os) _ noDerivation _ _ _ _ (derivations-below h more) (says-stop _ _ (c .before .before .before .before .before .check-derivation .ensures tree os h v b) _ (c .before .before .before .reason .given .1)))
     ∙ c .before .before .before .before .before .before .before .loop .inv .same tree os h v b
 
--- src/derivations.rt:323:1
 returns-2 : tie.Need-returns-2 Inv-loop μ-loop
 returns-2 c =
     λ tree os h v b.

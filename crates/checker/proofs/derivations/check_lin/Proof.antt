@@ -1,25 +1,17 @@
+-- `checker::derivations::check_lin` meets its contract: a suitable combination, then domination.
 use mathlib.Core.Path.{sym, subst, _∙_}
+use borrow.Author.Needs.{needs}
 use Rattle.rules.specs.Rows.{rowAt}
 use Rattle.checker.specs.Tables.{Listed}
-use Rattle.checker.proofs.DerivationsLaws.{rows-below, combination-at, lin-stop, lin-on}
-use borrow.Author.Needs.{needs}
-use native.Mathlib.Omega.{arith}
+use Rattle.checker.proofs.DerivationsLaws.{multipliers-found, rows-below, combination-at, lin-stop, lin-on}
 use Rattle.checker.proofs.derivations.check_lin.Statement.{statement}
 use Rattle.checker.proofs.derivations.check_lin.Tie as tie
-use Rattle.checker.proofs.derivations.check_lin.Reads as reads
-use Rattle.checker.proofs.derivations.check_lin.Lts as lts
-use Rattle.checker.proofs.derivations.check_dominates.Reads as check-dominates-reads
-use Rattle.checker.proofs.suitable.suitable_of.Reads as suitable-of-reads
-use Rattle.checker.proofs.tables.multipliers_at.Reads as multipliers-at-reads
 
--- src/derivations.rt:124:9
 multipliers-at-requires : tie.Need-multipliers-at-requires
 multipliers-at-requires c κs =
     let s = c .before .before .before in
-    let r = s .pre .0 .1 .rows-stand (s .args .own) (s .pre .1) in
-    (r .inside, r .cell-inside, s .pre .2)
+    multipliers-found (s .pre .0 .1) (s .args .own) (s .pre .1) (s .pre .2)
 
--- src/derivations.rt:125:9
 suitable-of-requires : tie.Need-suitable-of-requires
 suitable-of-requires c κs =
     let s = c .before .before .before .before in
@@ -28,22 +20,18 @@ suitable-of-requires c κs =
 enum-told : tie.Need-enum-told
 enum-told c = search needs
 
--- src/derivations.rt:128:9
 enum-told-2 : tie.Need-enum-told-2
 enum-told-2 c = search needs
 
--- src/derivations.rt:128:9
 returns : tie.Need-returns
 returns c =
     λ tree h.
     let s = c .before .before .before .before .before .before .before in
     lin-stop tree (rowAt tree (s .args .own)) _ _ _ (combination-at tree _ _ _ (c .before .before .before .multipliers-at .ensures) (c .before .before .suitable-of .ensures tree (rows-below h (s .args .own) (s .pre .1)) _)) _ (c .enum-told2 .given .1)
 
--- src/derivations.rt:131:5
 check-dominates-requires : tie.Need-check-dominates-requires
 check-dominates-requires c κs = search needs
 
--- src/derivations.rt:119:1
 returns-2 : tie.Need-returns-2
 returns-2 c =
     λ tree h.

@@ -1,22 +1,16 @@
+-- `checker::derivations::check_reason` meets its contract: the word tells the reason.
 use mathlib.Core.Path.{sym, _∙_, ap}
 use mathlib.Core.Option.{Option}
 use Prim.Native.Nat.{ℕ, _+_, _<_}
+use native.Mathlib.Omega.{arith}
+use borrow.Author.Needs.{needs}
 use Rattle.fraction.specs.declared.Fraction.{Fraction}
 use Rattle.rules.specs.Rows.{rowAt}
 use Rattle.rules.specs.Derivations.{checkLin, checkRnd, checkSol, checkReason}
 use Rattle.checker.specs.Held.{DerivationStands, derivationAt}
 use Rattle.checker.proofs.DerivationsLaws.{rows-few, row-found, asm-here, lin-here, rnd-here, uns-here, sol-here}
-use borrow.Author.Needs.{needs}
-use native.Mathlib.Omega.{arith}
 use Rattle.checker.proofs.derivations.check_reason.Statement.{statement}
 use Rattle.checker.proofs.derivations.check_reason.Tie as tie
-use Rattle.checker.proofs.derivations.check_reason.Reads as reads
-use Rattle.checker.proofs.derivations.check_reason.Lts as lts
-use Rattle.checker.proofs.derivations.check_lin.Reads as check-lin-reads
-use Rattle.checker.proofs.derivations.check_rnd.Reads as check-rnd-reads
-use Rattle.checker.proofs.derivations.check_sol.Reads as check-sol-reads
-use Rattle.checker.proofs.derivations.check_uns.Reads as check-uns-reads
-use Rattle.checker.proofs.tables.reason_at.Reads as reason-at-reads
 
 abbrev own : tie.Start → ℕ
 own s = s .args .frame .given + s .args .k
@@ -28,37 +22,30 @@ here s = s .pre .0 .1 .derivations-stand (s .args .k) (s .pre .1)
 below : (s : tie.Start) → own s < s .args .frame .given + s .args .frame .derived
 below s = omega (arith, s .pre .1)
 
--- src/derivations.rt:284:15
 add-own : tie.Need-add-own
 add-own c = omega (arith, rows-few (c .before .before .before .pre .0 .1), c .before .before .before .pre .1)
 
--- src/derivations.rt:285:9
 reason-at-requires : tie.Need-reason-at-requires
 reason-at-requires c κs = row-found (c .before .before .before .pre .0 .1) (own (c .before .before .before)) (below (c .before .before .before))
 
--- src/derivations.rt:286:16
 mul-word : tie.Need-mul-word
 mul-word c = omega (arith, c .reason-at .ensures, here (c .before .before .before .before) .word-inside)
 
--- src/derivations.rt:286:16
 shared-slice-read-word : tie.Need-shared-slice-read-word
 shared-slice-read-word c = omega (arith, c .before .reason-at .ensures, here (c .before .before .before .before .before) .word-inside)
 
--- src/derivations.rt:288:9
 returns : tie.Need-returns
 returns c =
     λ tree os h v b.
     let s = c .before .before .before .before .before .before in
     sym (ap (checkReason tree os (rowAt tree (own s))) (asm-here (h .derivations-stand _ (s .pre .1)) (c .before .before .reason-at .ensures) (c .if1 .taken)))
 
--- src/derivations.rt:291:9
 check-lin-requires : tie.Need-check-lin-requires
 check-lin-requires c κs =
     let s = c .before .before .before .before .before .before .before in
     let l = lin-here (here s) (c .before .before .before .reason-at .ensures) (c .if2 .taken) in
     (s .pre .0, below s, l .inside, l .listed)
 
--- src/derivations.rt:291:9
 returns-2 : tie.Need-returns-2
 returns-2 c =
     λ tree os h v b.
@@ -66,14 +53,12 @@ returns-2 c =
     let l = lin-here (h .derivations-stand _ (s .pre .1)) (c .before .before .before .before .reason-at .ensures) (c .before .if2 .taken) in
     c .check-lin .ensures tree h ∙ ap (checkLin tree (rowAt tree (own s))) (l .are) ∙ sym (ap (checkReason tree os (rowAt tree (own s))) (l .reason-is))
 
--- src/derivations.rt:294:9
 check-rnd-requires : tie.Need-check-rnd-requires
 check-rnd-requires c κs =
     let s = c .before .before .before .before .before .before .before .before in
     let l = rnd-here (here s) (c .before .before .before .before .reason-at .ensures) (c .if3 .taken) in
     (s .pre .0, below s, l .inside, l .listed)
 
--- src/derivations.rt:294:9
 returns-3 : tie.Need-returns-3
 returns-3 c =
     λ tree os h v b.
@@ -81,14 +66,12 @@ returns-3 c =
     let l = rnd-here (h .derivations-stand _ (s .pre .1)) (c .before .before .before .before .before .reason-at .ensures) (c .before .if3 .taken) in
     c .check-rnd .ensures tree h v ∙ ap (checkRnd tree (rowAt tree (own s))) (l .are) ∙ sym (ap (checkReason tree os (rowAt tree (own s))) (l .reason-is))
 
--- src/derivations.rt:297:9
 check-uns-requires : tie.Need-check-uns-requires
 check-uns-requires c κs =
     let s = c .before .before .before .before .before .before .before .before .before in
     let u = uns-here (here s) (c .before .before .before .before .before .reason-at .ensures) (c .if4 .taken) in
     (s .pre .0, below s, (u .unsplit, u .stands))
 
--- src/derivations.rt:297:9
 returns-4 : tie.Need-returns-4
 returns-4 c =
     λ tree os h v b.
@@ -96,11 +79,9 @@ returns-4 c =
     let u = uns-here (h .derivations-stand _ (s .pre .1)) (c .before .before .before .before .before .before .reason-at .ensures) (c .before .if4 .taken) in
     c .check-uns .ensures tree (u .unsplit) h v (u .stands) ∙ sym (ap (checkReason tree os (rowAt tree (own s))) (u .reason-is))
 
--- src/derivations.rt:299:5
 check-sol-requires : tie.Need-check-sol-requires
 check-sol-requires c κs = search needs
 
--- src/derivations.rt:272:1
 returns-5 : tie.Need-returns-5
 returns-5 c =
     λ tree os h v b.

@@ -1,28 +1,18 @@
+-- `checker::derivations::check_rnd` meets its contract: a suitable combination, whose right side is a fraction; rounding; domination.
 use mathlib.Core.Path.{sym, subst, _∙_}
+use borrow.Author.Tests.{not-true, not-false}
+use borrow.Author.Needs.{needs}
 use Rattle.rules.specs.Rows.{rowAt}
 use Rattle.checker.specs.Tables.{Listed}
-use borrow.Author.Tests.{not-true, not-false}
-use Rattle.checker.proofs.DerivationsLaws.{rows-below, combination-at, made-fraction, rnd-stop, rnd-not, rnd-on}
-use borrow.Author.Needs.{needs}
-use native.Mathlib.Omega.{arith}
+use Rattle.checker.proofs.DerivationsLaws.{multipliers-found, rows-below, combination-at, made-fraction, rnd-stop, rnd-not, rnd-on}
 use Rattle.checker.proofs.derivations.check_rnd.Statement.{statement}
 use Rattle.checker.proofs.derivations.check_rnd.Tie as tie
-use Rattle.checker.proofs.derivations.check_rnd.Reads as reads
-use Rattle.checker.proofs.derivations.check_rnd.Lts as lts
-use Rattle.checker.proofs.derivations.check_dominates.Reads as check-dominates-reads
-use Rattle.checker.proofs.suitable.suitable_of.Reads as suitable-of-reads
-use Rattle.checker.proofs.tables.multipliers_at.Reads as multipliers-at-reads
-use Rattle.constraint.proofs.can_be_rounded.Reads as can-be-rounded-reads
-use Rattle.constraint.proofs.rounded.Reads as rounded-reads
 
--- src/derivations.rt:147:9
 multipliers-at-requires : tie.Need-multipliers-at-requires
 multipliers-at-requires c κs =
     let s = c .before .before .before in
-    let r = s .pre .0 .1 .rows-stand (s .args .own) (s .pre .1) in
-    (r .inside, r .cell-inside, s .pre .2)
+    multipliers-found (s .pre .0 .1) (s .args .own) (s .pre .1) (s .pre .2)
 
--- src/derivations.rt:148:9
 suitable-of-requires : tie.Need-suitable-of-requires
 suitable-of-requires c κs =
     let s = c .before .before .before .before in
@@ -31,22 +21,18 @@ suitable-of-requires c κs =
 enum-told : tie.Need-enum-told
 enum-told c = search needs
 
--- src/derivations.rt:151:9
 enum-told-2 : tie.Need-enum-told-2
 enum-told-2 c = search needs
 
--- src/derivations.rt:151:9
 returns : tie.Need-returns
 returns c =
     λ tree h v.
     let s = c .before .before .before .before .before .before .before in
     rnd-stop tree (rowAt tree (s .args .own)) _ _ _ (combination-at tree _ _ _ (c .before .before .before .multipliers-at .ensures) (c .before .before .suitable-of .ensures tree (rows-below h (s .args .own) (s .pre .1)) _)) _ (c .enum-told2 .given .1)
 
--- src/derivations.rt:154:9
 can-be-rounded-requires : tie.Need-can-be-rounded-requires
 can-be-rounded-requires c κs = search needs
 
--- src/derivations.rt:155:9
 returns-2 : tie.Need-returns-2
 returns-2 c =
     λ tree h v.
@@ -54,15 +40,12 @@ returns-2 c =
     rnd-not tree (rowAt tree (s .args .own)) _ _ _ (combination-at tree _ _ _ (c .before .before .before .before .before .before .multipliers-at .ensures) (c .before .before .before .before .before .suitable-of .ensures tree (rows-below h (s .args .own) (s .pre .1)) _)) (c .before .before .before .enum-told .given .1)
     (sym (not-true _ (c .if1 .taken)) ∙ c .before .can-be-rounded .ensures tree v)
 
--- src/derivations.rt:157:9
 rounded-requires : tie.Need-rounded-requires
 rounded-requires c κs = search needs
 
--- src/derivations.rt:158:5
 check-dominates-requires : tie.Need-check-dominates-requires
 check-dominates-requires c κs = search needs
 
--- src/derivations.rt:135:1
 returns-3 : tie.Need-returns-3
 returns-3 c =
     λ tree h v.

@@ -1,33 +1,25 @@
+-- `checker::derivations::check_sol` meets its contract: the objective with the best value, if there is one, and the sense of being as good.
 use mathlib.Core.Path.{_∙_, ap}
 use mathlib.Core.Bool.{true, false}
 use mathlib.Core.Logic.{⊎-elim}
+use borrow.Author.Tests.{not-true, not-false}
+use borrow.Author.Needs.{needs}
 use Rattle.grammar.specs.Tree.{Sense}
 use Rattle.rules.specs.Rows.{rowAt, objectiveWith}
 use Rattle.constraint.specs.Meaning.{senseIs}
-use borrow.Author.Tests.{not-true, not-false}
 use Rattle.checker.proofs.DerivationsLaws.{sol-none, sol-some, towards-is}
-use borrow.Author.Needs.{needs}
-use native.Mathlib.Omega.{arith}
 use Rattle.checker.proofs.derivations.check_sol.Statement.{statement}
 use Rattle.checker.proofs.derivations.check_sol.Tie as tie
-use Rattle.checker.proofs.derivations.check_sol.Reads as reads
-use Rattle.checker.proofs.derivations.check_sol.Lts as lts
-use Rattle.checker.proofs.derivations.check_dominates.Reads as check-dominates-reads
-use Rattle.checker.proofs.derivations.objective_with.Reads as objective-with-reads
 
--- src/derivations.rt:261:9
 returns : tie.Need-returns
 returns c = λ tree h. sol-none tree (rowAt tree (c .before .before .before .before .args .own)) (c .before .before .before .before .args .best .any) (c .before .before .before .before .args .best .value) (not-true _ (c .if1 .taken))
 
--- src/derivations.rt:267:9
 objective-with-requires : tie.Need-objective-with-requires
 objective-with-requires c κs = search needs
 
--- src/derivations.rt:268:5
 check-dominates-requires : tie.Need-check-dominates-requires
 check-dominates-requires c κs = search needs
 
--- src/derivations.rt:249:1
 returns-2 : tie.Need-returns-2
 returns-2 c =
     λ tree h.

@@ -1,31 +1,23 @@
+-- `checker::derivations::is_assumption` meets its contract: a given row never is; a derived row by the word of its reason.
 use mathlib.Core.Path.{sym, ap}
+use native.Mathlib.Omega.{arith}
 use Rattle.rules.specs.Splits.{assumed}
 use Rattle.checker.proofs.DerivationsLaws.{row-found, given-here, derived-row, word-there, assumed-by}
-use borrow.Author.Needs.{needs}
-use native.Mathlib.Omega.{arith}
 use Rattle.checker.proofs.derivations.is_assumption.Statement.{statement}
 use Rattle.checker.proofs.derivations.is_assumption.Tie as tie
-use Rattle.checker.proofs.derivations.is_assumption.Reads as reads
-use Rattle.checker.proofs.derivations.is_assumption.Lts as lts
-use Rattle.checker.proofs.tables.reason_at.Reads as reason-at-reads
 
--- src/derivations.rt:167:9
 returns : tie.Need-returns
 returns c = λ tree values h. ap assumed (sym (given-here h _ (c .if1 .taken)))
 
--- src/derivations.rt:169:9
 reason-at-requires : tie.Need-reason-at-requires
 reason-at-requires c κs = row-found (c .before .before .before .before .pre .0 .1 .1) (c .before .before .before .before .args .r) (c .before .before .before .before .pre .1)
 
--- src/derivations.rt:170:5
 mul-result : tie.Need-mul-result
 mul-result c = omega (arith, word-there (derived-row (c .before .before .before .before .before .pre .0 .1 .1) _ (c .before .if1 .left) (c .before .before .before .before .before .pre .1)) (c .reason-at .ensures))
 
--- src/derivations.rt:170:5
 shared-slice-read-result : tie.Need-shared-slice-read-result
 shared-slice-read-result c = word-there (derived-row (c .before .before .before .before .before .before .pre .0 .1 .1) _ (c .before .before .if1 .left) (c .before .before .before .before .before .before .pre .1)) (c .before .reason-at .ensures)
 
--- src/derivations.rt:162:1
 returns-2 : tie.Need-returns-2
 returns-2 c =
     λ tree values h.

@@ -1,55 +1,42 @@
+-- `checker::derivations::is_proper_split` meets its contract: both are assumptions, and their constraints a split.
 use mathlib.Core.Path.{refl, sym, _∙_, ap₂}
 use borrow.Author.Tests.{not-true, not-false}
-use Rattle.checker.proofs.DerivationsLaws.{and-yes, and-no}
+use borrow.Author.Needs.{needs}
 use Rattle.rules.specs.Rows.{rowAt}
 use Rattle.rules.specs.Splits.{isSplit, isProperSplit}
-use borrow.Author.Needs.{needs}
-use native.Mathlib.Omega.{arith}
+use Rattle.checker.proofs.DerivationsLaws.{and-yes, and-no}
 use Rattle.checker.proofs.derivations.is_proper_split.Statement.{statement}
 use Rattle.checker.proofs.derivations.is_proper_split.Tie as tie
-use Rattle.checker.proofs.derivations.is_proper_split.Reads as reads
-use Rattle.checker.proofs.derivations.is_proper_split.Lts as lts
-use Rattle.checker.proofs.derivations.is_assumption.Reads as is-assumption-reads
-use Rattle.checker.proofs.tables.constraint_at.Reads as constraint-at-reads
-use Rattle.constraint.proofs.is_split.Reads as is-split-reads
 
--- src/derivations.rt:186:9
 is-assumption-requires : tie.Need-is-assumption-requires
 is-assumption-requires c κs = search needs
 
--- src/derivations.rt:187:9
 returns : tie.Need-returns
 unfolding isProperSplit
-returns c =     λ tree h v. and-no _ (and-no _ (c .before .is-assumption .ensures tree _ h) (not-true _ (c .if1 .taken))) refl
+returns c = λ tree h v. and-no _ (and-no _ (c .before .is-assumption .ensures tree _ h) (not-true _ (c .if1 .taken))) refl
 
--- src/derivations.rt:189:9
 is-assumption-requires-2 : tie.Need-is-assumption-requires-2
 is-assumption-requires-2 c κs = search needs
 
--- src/derivations.rt:190:9
 returns-2 : tie.Need-returns-2
 unfolding isProperSplit
 returns-2 c =
     λ tree h v.
     and-no _ (sym (not-true _ (c .if2 .taken)) ∙ c .before .is-assumption2 .ensures tree _ h ∙ and-yes _ (c .before .before .before .is-assumption .ensures tree _ h) (not-false _ (c .before .before .if1 .left))) refl
 
--- src/derivations.rt:193:9
 constraint-at-requires : tie.Need-constraint-at-requires
 constraint-at-requires c κs =
     let p = c .before .before .before .before .before .before .before .pre in
     (p .0 .0, (rowAt (p .0 .0) _, p .0 .1 .rows-stand _ (p .1)))
 
--- src/derivations.rt:194:9
 constraint-at-requires-2 : tie.Need-constraint-at-requires-2
 constraint-at-requires-2 c κs =
     let p = c .before .before .before .before .before .before .before .before .pre in
     (p .0 .0, (rowAt (p .0 .0) _, p .0 .1 .rows-stand _ (p .2)))
 
--- src/derivations.rt:195:5
 is-split-requires : tie.Need-is-split-requires
 is-split-requires c κs = search needs
 
--- src/derivations.rt:174:1
 returns-3 : tie.Need-returns-3
 unfolding isProperSplit
 returns-3 c =

@@ -1,34 +1,24 @@
+-- `checker::derivations::is_spent` meets its contract: a given row never is; a derived row by its last index.
 use mathlib.Core.Path.{sym, ap}
 use Rattle.rules.specs.Derivations.{isSpent}
 use Rattle.checker.proofs.DerivationsLaws.{row-found, given-here, derived-row, last-there, spent-never, spent-by}
-use borrow.Author.Needs.{needs}
-use native.Mathlib.Omega.{arith}
 use Rattle.checker.proofs.derivations.is_spent.Statement.{statement}
 use Rattle.checker.proofs.derivations.is_spent.Tie as tie
-use Rattle.checker.proofs.derivations.is_spent.Reads as reads
-use Rattle.checker.proofs.derivations.is_spent.Lts as lts
-use Rattle.checker.proofs.tables.last_at.Reads as last-at-reads
-use Rattle.checker.proofs.tables.reason_at.Reads as reason-at-reads
 
--- src/derivations.rt:38:9
 returns : tie.Need-returns
 returns c = λ tree values h. ap (isSpent _) (sym (given-here h _ (c .if1 .taken)))
 
--- src/derivations.rt:40:9
 reason-at-requires : tie.Need-reason-at-requires
 reason-at-requires c κs = row-found (c .before .before .before .before .pre .0 .1 .1) (c .before .before .before .before .args .r) (c .before .before .before .before .pre .1)
 
--- src/derivations.rt:41:9
 last-at-requires : tie.Need-last-at-requires
 last-at-requires c κs = last-there (derived-row (c .before .before .before .before .before .pre .0 .1 .1) _ (c .before .if1 .left) (c .before .before .before .before .before .pre .1)) (c .reason-at .ensures)
 
--- src/derivations.rt:43:9
 returns-2 : tie.Need-returns-2
 returns-2 c =
     λ tree values h.
     spent-never (derived-row h _ (c .before .before .before .if1 .left) (c .before .before .before .before .before .before .before .pre .1)) (c .before .before .reason-at .ensures) _ _ (c .before .last-at .ensures) (c .if2 .taken)
 
--- src/derivations.rt:33:1
 returns-3 : tie.Need-returns-3
 returns-3 c =
     λ tree values h.

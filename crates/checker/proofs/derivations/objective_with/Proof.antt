@@ -1,17 +1,12 @@
-use Rattle.checker.proofs.DerivationsLaws.{objective-is}
+-- `checker::derivations::objective_with` meets its contract: the objective's coefficients, with the sense and the right side that are given.
 use borrow.Author.Needs.{needs}
-use native.Mathlib.Omega.{arith}
+use Rattle.checker.proofs.DerivationsLaws.{objective-is}
 use Rattle.checker.proofs.derivations.objective_with.Statement.{statement}
 use Rattle.checker.proofs.derivations.objective_with.Tie as tie
-use Rattle.checker.proofs.derivations.objective_with.Reads as reads
-use Rattle.checker.proofs.derivations.objective_with.Lts as lts
-use Rattle.checker.proofs.tables.coefficients_at.Reads as coefficients-at-reads
 
--- src/derivations.rt:240:9
 coefficients-at-requires : tie.Need-coefficients-at-requires
 coefficients-at-requires c κs = search needs
 
--- src/derivations.rt:229:1
 returns : tie.Need-returns
 returns c =
     λ tree h.

@@ -1,54 +1,40 @@
+-- `checker::suitable::signed_at` meets its contract: the sense of the row, then the numerator times its sign.
 use mathlib.Core.Path.{_≡_, _∙_, ap}
+use borrow.Author.Needs.{needs}
 use mir.Syntax.{w64}
 use mir.Val.{toZ, ofZ}
 use Rattle.grammar.specs.Tree.{Sense}
 use Rattle.constraint.specs.Signs.{signedNumber}
-use borrow.Author.Needs.{needs}
-use native.Mathlib.Omega.{arith}
 use Rattle.checker.proofs.suitable.signed_at.Statement.{statement}
 use Rattle.checker.proofs.suitable.signed_at.Tie as tie
-use Rattle.checker.proofs.suitable.signed_at.Reads as reads
-use Rattle.checker.proofs.suitable.signed_at.Lts as lts
-use Rattle.checker.proofs.tables.sense_at.Reads as sense-at-reads
-use Rattle.constraint.proofs.signed_multiplier.Reads as signed-multiplier-reads
 
--- src/suitable.rt:45:21
 mul-cell : tie.Need-mul-cell
 mul-cell c = search needs
 
--- src/suitable.rt:45:21
 add-cell : tie.Need-add-cell
 add-cell c = search needs
 
--- src/suitable.rt:45:16
 mul-cell-2 : tie.Need-mul-cell-2
 mul-cell-2 c = search needs
 
--- src/suitable.rt:45:16
 shared-slice-read-cell : tie.Need-shared-slice-read-cell
 shared-slice-read-cell c = search needs
 
--- src/suitable.rt:45:16
 cast-cell : tie.Need-cast-cell
 cast-cell c = search needs
 
--- src/suitable.rt:46:34
 mul-sense-at : tie.Need-mul-sense-at
 mul-sense-at c = search needs
 
--- src/suitable.rt:46:34
 shared-slice-read-sense-at : tie.Need-shared-slice-read-sense-at
 shared-slice-read-sense-at c = search needs
 
--- src/suitable.rt:46:9
 sense-at-requires : tie.Need-sense-at-requires
 sense-at-requires c κs = search needs
 
--- src/suitable.rt:47:5
 signed-multiplier-requires : tie.Need-signed-multiplier-requires
 signed-multiplier-requires c κs = search needs
 
--- src/suitable.rt:34:1
 returns : tie.Need-returns
 returns c =
     λ tree row h.

@@ -1,36 +1,26 @@
+-- `checker::suitable::suitable_of` meets its contract: the sign rule by its two tests, then the combination.
 use borrow.Author.Tests.{not-true, not-false}
+use borrow.Author.Needs.{needs}
 use Rattle.checker.proofs.CombinationLaws.{fits-is, fits-not}
 use Rattle.checker.proofs.SuitableLaws.{suitable-told, sense-told, not-suitable, too-wide, is-suitable}
-use borrow.Author.Needs.{needs}
-use native.Mathlib.Omega.{arith}
 use Rattle.checker.proofs.suitable.suitable_of.Statement.{statement}
 use Rattle.checker.proofs.suitable.suitable_of.Tie as tie
-use Rattle.checker.proofs.suitable.suitable_of.Reads as reads
-use Rattle.checker.proofs.suitable.suitable_of.Lts as lts
-use Rattle.checker.proofs.combination.combine.Reads as combine-reads
-use Rattle.checker.proofs.suitable.signs_of.Reads as signs-of-reads
-use Rattle.constraint.proofs.sense_of.Reads as sense-of-reads
 
--- src/suitable.rt:96:9
 signs-of-requires : tie.Need-signs-of-requires
 signs-of-requires c κs = search needs
 
--- src/suitable.rt:97:9
 sense-of-requires : tie.Need-sense-of-requires
 sense-of-requires c κs = search needs
 
--- src/suitable.rt:98:9
 combine-requires : tie.Need-combine-requires
 combine-requires c κs = search needs
 
--- src/suitable.rt:108:9
 returns : tie.Need-returns
 returns c =
     λ tree stand place.
     let s = c .before .before .before .before .before .before .before .signs-of .ensures in
     not-suitable tree place _ (suitable-told tree _ (s .0 tree stand) (s .1 tree stand) (not-true _ (c .if1 .taken)))
 
--- src/suitable.rt:114:9
 returns-2 : tie.Need-returns-2
 returns-2 c =
     λ tree stand place.
@@ -38,7 +28,6 @@ returns-2 c =
     too-wide tree place _ (suitable-told tree _ (s .0 tree stand) (s .1 tree stand) (not-false _ (c .before .before .if1 .left)))
     (fits-not place (c .before .before .before .before .before .before .before .combine .result .fits) _ (c .before .before .before .before .before .before .before .combine .ensures tree stand place) (c .if2 .taken))
 
--- src/suitable.rt:85:1
 returns-3 : tie.Need-returns-3
 returns-3 c =
     λ tree stand place.
