@@ -1,6 +1,11 @@
--- Laws that the proofs of checking cite: what the tables list, folds over it, combinations of rows, lists from an element on, and
--- solutions.
+-- Laws that the proofs of checking cite.
+pub mod Lists
 pub mod TablesLaws
 pub mod CombinationLaws
-pub mod Lists
+pub mod SuitableLaws
 pub mod SolutionsLaws
+pub mod DerivationsLaws
+pub mod LastRow
+pub mod ClaimsLaws
+pub mod InOrder
+pub mod Verifying
