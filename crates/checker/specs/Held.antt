@@ -140,6 +140,7 @@ ClaimStands index values cell n (range lower upper) =
     (cell + 2 < length index)
     × ((getD index cell 0 ≡ 1) × (getD index (cell + 1) 0 ≡ endCell lower) × (getD index (cell + 2) 0 ≡ endCell upper))
     × (EndStands values n lower × EndStands values (n + endCell lower) upper)
+    × (2 * n ≤ length values)
 
 -- some end, some claim
 abbrev pub EndIsThere : List ℕ → List ℤ → ℕ → ℕ → Type 0

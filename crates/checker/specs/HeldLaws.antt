@@ -91,6 +91,7 @@ module _ {all : List Fraction} {values : List ℤ} (turns : Turns all values) wh
       subst (λ (k : ℕ). EndStands values (n + k) upper) (end-size lower)
           (end-stands upper (n + length (endValues lower)) (stands-rest (endValues lower) (endValues upper) v)),
     ),
+    omega (arith, stands-inside (turns .stand v)),
   )
 
 -- ---- the objective's direction

@@ -4,14 +4,15 @@ ghost use mathlib.Core.List.{List};
 ghost use Prim.Native.Nat.{_+_, _<_};
 ghost use lib.IntN.{ℤ};
 ghost use lib.ListN.{getD};
-ghost use Rattle.grammar.specs.Tree.{End, Claim, Tree};
+ghost use Rattle.grammar.specs.Tree.{Direction, End, Claim, Tree};
 ghost use Rattle.grammar.specs.Contents.{endCell};
 ghost use Rattle.rules.specs.Rows.{variables, objectiveWith};
 ghost use Rattle.rules.specs.Domination.{isAbsurd, dominates};
 ghost use Rattle.rules.specs.Solutions.{endToReach};
 ghost use Rattle.rules.specs.Assumptions.{assumptionsOf, isEmpty};
 ghost use Rattle.rules.specs.Claims.{asked, lastRow, lastPasses, isProved};
-ghost use Rattle.checker.specs.Held.{EndStands, EndIsThere, ClaimStands, ClaimIsThere, Stands, Standing, Found};
+ghost use Rattle.constraint.specs.Meaning.{senseIs};
+ghost use Rattle.checker.specs.Held.{EndStands, EndIsThere, ClaimStands, ClaimIsThere, isMaximize, Stands, Standing, Found};
 ghost use Rattle.checker.specs.Answers.{boundSays, endIn, against, askedSays};
 use crate::assumptions;
 use crate::derivations;
@@ -101,6 +102,13 @@ fn asked_at(index: &[u16], values: &[i32], rows: &[u16], frame: Frame) -> Asked
     }
 }
 
+// The sense of the bound that a range asks to be proved: OBJ ≥ lb for min, OBJ ≤ ub for max.
+fn sense_asked(maximize: bool) -> Sense
+    ensures { λ s. ⌜ ((d : Direction) → maximize ≡ isMaximize d → senseIs s ≡ against d) ⌝ }
+{
+    if maximize { Sense::AtMost } else { Sense::AtLeast }
+}
+
 // Whether row r has no assumptions.
 fn is_free(index: &[u16], rows: &[u16], frame: Frame, r: usize) -> bool
     requires { ⌜ Found frame (now index) (now rows) × (r < frame .given + frame .derived) ⌝ }
@@ -146,10 +154,7 @@ fn last_dominates(
     let last = frame.given + frame.derived - 1;
     let objective = frame.objective;
     let row = tables::constraint_at(index, values, rows, objective, last);
-    let mut sense = Sense::AtLeast;
-    if frame.maximize {
-        sense = Sense::AtMost;
-    }
+    let sense = sense_asked(frame.maximize);
     let claimed = derivations::objective_with(index, values, rows, frame, sense, bound);
     if constraint::dominates(row, claimed, frame.variables) {
         is_free(index, rows, frame, last)

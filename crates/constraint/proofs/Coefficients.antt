@@ -1,12 +1,15 @@
 -- Coefficients in an array: what is read there, and what the tests say of the variables beyond it.
 -- Assumes nothing.
-use mathlib.Core.Path.{_≡_, refl, sym, _∙_, ap, ap₂}
-use mathlib.Core.Bool.{Bool, true}
+use mathlib.Core.Path.{_≡_, refl, sym, _∙_, ap, ap₂, subst}
+use mathlib.Core.Bool.{Bool, true, false, cond}
 use mathlib.Core.List.{List, [], _∷_}
 use Prim.Native.Nat.{ℕ, zero, suc, _≤_, _<_}
 use native.Mathlib.Nat.{not-suc-le-zero, le-of-suc-le-suc}
 use native.Mathlib.Omega.{arith}
-use lib.ListN.{getD, length, List·getD-eq-default}
+use borrow.Author.Tests.{eqb-true, eqb-false}
+use lib.Dec.{eqb}
+use lib.ListN.{getD, set, length, List·getD-eq-default}
+use lib.Seq.{getD-set-same, getD-set-other}
 use lib.IntN.{pos}
 use Rattle.fraction.specs.QuotientLaws.{≈-refl}
 use Rattle.fraction.specs.Fraction.{exact}
@@ -14,6 +17,7 @@ use Rattle.fraction.specs.Laws.{zeroF, zero-is}
 use Rattle.fraction.specs.declared.Fraction.{Fraction}
 use Rattle.rules.specs.Values.{zeroQ, isZero, isSame}
 use Rattle.rules.specs.ValuesLaws.{decides-same}
+use Rattle.rules.specs.Combinations.{withCoefficient}
 use Rattle.constraint.specs.Meaning.{coefficientsOf, marked, zeroAt, sameAt, mayStand, integralAt}
 
 -- a read within a list is the same whatever stands for what is beyond it
@@ -23,12 +27,20 @@ same-read (x ∷ xs) d e {n = zero} h = refl
 same-read (x ∷ xs) d e {n = suc n} h = same-read xs d e {n = n} (le-of-suc-le-suc h)
 
 -- what a read past an array gives in the logic; no code makes it
-abbrev noFraction : Fraction
+abbrev pub noFraction : Fraction
 noFraction = record { num = pos 0; den = pos 0 }
 
 module _ (cs : List Fraction) (all : length cs ≡ 256) where
   pub read-at : (v : ℕ) → v < 256 → getD cs v noFraction ≡ coefficientsOf cs v
   read-at v h = same-read cs noFraction zeroF {n = v} (omega arith)
+
+  -- a coefficient that is stored
+  pub set-at : (v : ℕ) (f : Fraction) → v < 256 → coefficientsOf (set cs v f) ≡ withCoefficient v f (coefficientsOf cs)
+  set-at v f h = λ i w. each w (eqb v w) refl i
+    where
+      each : (w : ℕ) (t : Bool) → eqb v w ≡ t → coefficientsOf (set cs v f) w ≡ cond t f (coefficientsOf cs w)
+      each w true e = subst (λ (u : ℕ). coefficientsOf (set cs v f) u ≡ f) (eqb-true v w e) (getD-set-same cs v f zeroF (omega arith))
+      each w false e = getD-set-other cs v w f zeroF (λ h. eqb-false v w e (sym h))
 
   beyond : (v : ℕ) → 256 ≤ v → coefficientsOf cs v ≡ zeroF
   beyond v h = List·getD-eq-default cs zeroF {n = v} (omega arith)

@@ -1,11 +1,11 @@
 -- Signed numbers as the machine tests them, and the answers of `fraction`.
 -- Assumes nothing.
 use mathlib.Core.Path.{_≡_, refl, sym, _∙_, ap}
-use mathlib.Core.Bool.{Bool, true, false}
-use Prim.Native.Nat.{ℕ, zero, suc, _+_, _^_, _≤_, _<_}
+use mathlib.Core.Bool.{Bool, true, false, cond}
+use Prim.Native.Nat.{ℕ, suc, _+_, _-_, _≤_, _<_}
 use native.Mathlib.Omega.{arith}
-use borrow.Author.Tests.{eqb-true, eqb-false, lt-ltb}
-use lib.Dec.{eqb}
+use borrow.Author.Tests.{eqb-true, eqb-false}
+use lib.Dec.{eqb, ltb}
 use lib.IntN.{ℤ, pos, negsuc, negℤ, _+ℤ_, _-ℤ_, _*ℤ_, *ℤ-negsuc}
 use lib.Signed.{mag}
 use mir.Syntax.{Width, w32, w64}
@@ -13,7 +13,7 @@ use mir.Val.{SFits, toZ, ofZ}
 use mir.Facts.{toZ-ofZ}
 use Rattle.integers.proofs.Casts.{back-of, zero-minus, neg-fits, natAbs-small}
 use Rattle.integers.specs.Integers.{*ℤ-pos-one}
-use Rattle.fraction.specs.Outcome.{Outcome}
+use Rattle.fraction.specs.Outcome.{Outcome, gives, refuses}
 use Rattle.fraction.specs.Fraction.{Order, comparisonSays}
 use Rattle.fraction.specs.declared.Comparison.{Comparison}
 use Rattle.rules.specs.Tests.{fails}
@@ -39,17 +39,20 @@ same-bits w x y p q = go (eqb (ofZ w x) (ofZ w y)) refl
 pub is-number : (x : ℤ) (n : ℕ) → mag x < 2147483648 → n < 2147483648 → eqb (ofZ w32 x) n ≡ sameZ x (pos n)
 is-number x n p q = same-bits w32 x (pos n) (record { sfits = p }) (record { sfits = q })
 
--- ---- the next number, in 64 bits
+-- ---- sums, in 64 bits
 
-mag-next : (x : ℤ) → mag (x +ℤ pos 1) ≤ mag x + 1
-mag-next (pos n) = omega arith
-mag-next (negsuc zero) = omega arith
-mag-next (negsuc (suc n)) = rw (lt-ltb 1 (suc (suc n)) (omega arith)) (omega arith)
+mag-plus : (x : ℤ) (k : ℕ) → mag (x +ℤ pos k) ≤ mag x + k
+mag-plus (pos n) k = omega arith
+mag-plus (negsuc n) k = go (ltb k (suc n))
+  where
+    go : (t : Bool) → mag (cond t (negsuc (suc n - suc k)) (pos (k - suc n))) ≤ n + k
+    go true = omega arith
+    go false = omega arith
 
-pub next-fits : (x : ℤ) → mag x < 2147483648 → SFits w64 (x +ℤ pos 1)
-next-fits x p = record { sfits = omega (arith, mag-next x) }
+plus-fits : (x : ℤ) (k : ℕ) → mag x < 2147483648 → k < 2147483648 → SFits w64 (x +ℤ pos k)
+plus-fits x k p q = record { sfits = omega (arith, mag-plus x k) }
 
-pub wide-fits : (x : ℤ) → mag x < 2147483648 → SFits w64 x
+wide-fits : (x : ℤ) → mag x < 2147483648 → SFits w64 x
 wide-fits x p = record { sfits = omega arith }
 
 -- an i32 that was copied, and then widened
@@ -59,12 +62,12 @@ cast-fits x p = rw (back-of x p) (wide-fits x p)
 pub copied : (x : ℤ) → mag x < 2147483648 → toZ w64 (ofZ w64 (toZ w32 (ofZ w32 x))) ≡ x
 copied x p = ap (λ (z : ℤ). toZ w64 (ofZ w64 z)) (back-of x p) ∙ toZ-ofZ (wide-fits x p)
 
-pub sum-fits : (x : ℤ) → mag x < 2147483648 → SFits w64 (toZ w64 (ofZ w64 (toZ w32 (ofZ w32 x))) +ℤ pos 1)
-sum-fits x p = rw (copied x p) (next-fits x p)
+pub sum-fits : (x : ℤ) (k : ℕ) → mag x < 2147483648 → k < 2147483648 → SFits w64 (toZ w64 (ofZ w64 (toZ w32 (ofZ w32 x))) +ℤ pos k)
+sum-fits x k p q = rw (copied x p) (plus-fits x k p q)
 
 pub is-next : (x y : ℤ) → mag x < 2147483648 → mag y < 2147483648
     → eqb (ofZ w64 (toZ w32 (ofZ w32 y))) (ofZ w64 (toZ w64 (ofZ w64 (toZ w32 (ofZ w32 x))) +ℤ pos 1)) ≡ sameZ y (x +ℤ pos 1)
-is-next x y p q = rw (copied x p, back-of y q) (same-bits w64 y (x +ℤ pos 1) (wide-fits y q) (next-fits x p))
+is-next x y p q = rw (copied x p, back-of y q) (same-bits w64 y (x +ℤ pos 1) (wide-fits y q) (plus-fits x 1 p (omega arith)))
 
 -- ---- 0 minus a number, in 64 bits
 
@@ -79,3 +82,11 @@ negated x p = toZ-ofZ (negated-fits x p) ∙ rw (copied x p, zero-minus x) (sym 
 
 pub passed : (test : Order → Bool) {r s : Comparison} {o : Outcome Order} → comparisonSays r ≡ o → r ≡ s → passes test (comparisonSays s) ≡ passes test o
 passed test e h = ap (λ (c : Comparison). passes test (comparisonSays c)) (sym h) ∙ ap (passes test) e
+
+-- two tests that say the same of each order
+pub same-passes : (f g : Order → Bool) → f Order.less ≡ g Order.less → f Order.equal ≡ g Order.equal → f Order.greater ≡ g Order.greater
+    → (o : Outcome Order) → passes f o ≡ passes g o
+same-passes f g l e m (gives Order.less) = l
+same-passes f g l e m (gives Order.equal) = e
+same-passes f g l e m (gives Order.greater) = m
+same-passes f g l e m (refuses n) = refl

@@ -1,10 +1,9 @@
 -- Senses, and right sides that are rounded.
 -- Assumes nothing.
 use mathlib.Core.Path.{_≡_, refl, sym, _∙_, ap}
-use mathlib.Core.Bool.{Bool, true, false}
-use mathlib.Core.List.{List}
+use mathlib.Core.Bool.{Bool}
 use lib.IntN.{ℤ}
-use Rattle.fraction.specs.Outcome.{Outcome, gives, refuses}
+use Rattle.fraction.specs.Outcome.{gives}
 use Rattle.fraction.specs.Fraction.{IsFraction, isFraction, onFractions}
 use Rattle.fraction.specs.Meaning.{fraction-is, is-fraction}
 use Rattle.fraction.specs.declared.Fraction.{Fraction}

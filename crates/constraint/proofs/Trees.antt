@@ -1,7 +1,7 @@
 -- Tests over a tree's variables are those over the numbers and marks that the code has.
 -- Assumes nothing.
 use mathlib.Core.Path.{_≡_, sym, _∙_, ap}
-use mathlib.Core.Bool.{Bool, _&&_, _||_}
+use mathlib.Core.Bool.{Bool}
 use mathlib.Core.List.{List}
 use Prim.Native.Nat.{ℕ}
 use Rattle.fraction.specs.declared.Fraction.{Fraction}
@@ -10,7 +10,7 @@ use Rattle.rules.specs.Tests.{everyBelow}
 use Rattle.rules.specs.Rows.{variables, Constraint}
 use Rattle.rules.specs.Domination.{sameCoefficients}
 use Rattle.rules.specs.Rounding.{isInteger, isIntegral}
-use Rattle.constraint.specs.Meaning.{coefficientsOf, mayStand, marked, allIntegral, VariablesAre}
+use Rattle.constraint.specs.Meaning.{coefficientsOf, mayStand, allIntegral, VariablesAre}
 
 -- the same test of each
 every-same : (f g : ℕ → Bool) → ((v : ℕ) → f v ≡ g v) → (n : ℕ) → everyBelow n f ≡ everyBelow n g

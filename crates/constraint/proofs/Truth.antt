@@ -1,6 +1,6 @@
 -- Tests made of tests, as the code branches on them.
 -- Assumes nothing.
-use mathlib.Core.Path.{_≡_, refl, sym, _∙_, ap}
+use mathlib.Core.Path.{_≡_, sym, _∙_, ap}
 use mathlib.Core.Bool.{Bool, true, false, _&&_, _||_}
 
 -- a test that a call answered with r, and what is tested next

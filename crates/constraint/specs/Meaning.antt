@@ -1,13 +1,13 @@
 -- Constraints by value: what the code's constraints stand for, and the tests of them that a function of its own makes.
 -- Assumes nothing.
 use mathlib.Core.Path.{_≡_}
-use mathlib.Core.Bool.{Bool, false, cond, _&&_, _||_}
+use mathlib.Core.Bool.{Bool, true, false, _&&_, _||_}
 use mathlib.Core.List.{List}
 use Prim.Native.Nat.{ℕ}
 use lib.IntN.{ℤ, pos, _+ℤ_}
 use lib.ListN.{getD}
 use Rattle.fraction.specs.Outcome.{Outcome, gives, refuses}
-use Rattle.fraction.specs.Fraction.{exact}
+use Rattle.fraction.specs.Fraction.{exact, Order}
 use Rattle.fraction.specs.Laws.{zeroF}
 use Rattle.fraction.specs.declared.Fraction.{Fraction}
 use Rattle.grammar.specs.Tree as tree
@@ -36,6 +36,14 @@ marked integers v = getD integers v false
 -- the constraint that a struct stands for
 abbrev pub meant : Constraint → rows.Constraint
 meant c = record { sense = senseIs (c .sense); coefficient = coefficientsOf (c .coefficients); right = c .right }
+
+-- ---- tests of values
+
+-- equal, or less if that is asked for too
+abbrev pub equalOr : Bool → Order → Bool
+equalOr less Order.less = less
+equalOr less Order.equal = true
+equalOr less Order.greater = false
 
 -- ---- the tests of coefficients, each of n variables
 

@@ -3,16 +3,16 @@
 // for the variables beyond the array have the coefficient 0.
 ghost use mathlib.Core.Path.{_≡_};
 ghost use Prim.Native.Nat.{min};
-ghost use Rattle.fraction.specs.Fraction.{IsFraction, exact, roundingSays};
+ghost use Rattle.fraction.specs.Fraction.{IsFraction, exact, compareOf, roundingSays};
 ghost use Rattle.grammar.specs.Tree.{Tree};
 ghost use Rattle.grammar.specs.Certificate.{senseCell};
-ghost use Rattle.rules.specs.Values.{isWhole, isZero, isSame, isAtMost};
+ghost use Rattle.rules.specs.Values.{isWhole, isZero, passes, isSame, isAtMost};
 ghost use Rattle.rules.specs.Rows.{sameSense};
 ghost use Rattle.rules.specs.Solutions.{holds as holdsOf};
 ghost use Rattle.rules.specs.Domination.{failsAtZero, isAbsurd, sameCoefficients, isTighter, dominates as dominatesOf};
 ghost use Rattle.rules.specs.Rounding.{isIntegral, canBeRounded, rounded as roundedOf};
 ghost use Rattle.rules.specs.Splits.{areAdjacent, isSplit};
-ghost use Rattle.constraint.specs.Meaning.{senseIs, meant, VariablesAre, allZero, allSame, mayStand, allIntegral, areNext, withRounding};
+ghost use Rattle.constraint.specs.Meaning.{senseIs, meant, equalOr, VariablesAre, allZero, allSame, mayStand, allIntegral, areNext, withRounding};
 ghost use Rattle.constraint.specs.Signs.{signedNumber, senseBy};
 use fraction::Comparison;
 use fraction::Fraction;
@@ -66,26 +66,28 @@ fn is_zero(f: Fraction) -> bool
     f.num == 0
 }
 
-pub fn is_same(a: Fraction, b: Fraction) -> bool
-    ensures { λ r. ⌜ r ≡ isSame a b ⌝ }
+// Whether two fractions are equal, or, if `less` is asked for too, the first is at most the second.
+fn compares(a: Fraction, b: Fraction, less: bool) -> bool
+    ensures { λ r. ⌜ r ≡ passes (equalOr less) (compareOf a b) ⌝ }
 {
     match fraction::compare(a, b) {
-        Comparison::Less => false,
+        Comparison::Less => less,
         Comparison::Equal => true,
         Comparison::Greater => false,
         Comparison::NotAFraction => false,
     }
 }
 
+pub fn is_same(a: Fraction, b: Fraction) -> bool
+    ensures { λ r. ⌜ r ≡ isSame a b ⌝ }
+{
+    compares(a, b, false)
+}
+
 pub fn is_at_most(a: Fraction, b: Fraction) -> bool
     ensures { λ r. ⌜ r ≡ isAtMost a b ⌝ }
 {
-    match fraction::compare(a, b) {
-        Comparison::Less => true,
-        Comparison::Equal => true,
-        Comparison::Greater => false,
-        Comparison::NotAFraction => false,
-    }
+    compares(a, b, true)
 }
 
 // Whether a sense holds of a left side and a right side.

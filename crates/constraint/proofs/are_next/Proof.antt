@@ -1,5 +1,6 @@
 -- `constraint::are_next` meets its contract: whole numbers whose numerators, in 64 bits, are one apart.
 use mathlib.Core.Path.{_∙_}
+use native.Mathlib.Omega.{arith}
 use borrow.Author.Needs.{needs}
 use Rattle.constraint.proofs.are_next.Statement.{statement}
 use Rattle.constraint.proofs.are_next.Tie as tie
@@ -20,7 +21,7 @@ cast-result-2 : tie.Need-cast-result-2
 cast-result-2 c = cast-fits (c .before .before .before .before .before .before .args .a .num) (c .before .struct-told .given .0 .1)
 
 add-result : tie.Need-add-result
-add-result c = sum-fits (c .before .before .before .before .before .before .args .a .num) (c .before .struct-told .given .0 .1)
+add-result c = sum-fits (c .before .before .before .before .before .before .args .a .num) _ (c .before .struct-told .given .0 .1) (omega arith)
 
 returns : tie.Need-returns
 returns c =

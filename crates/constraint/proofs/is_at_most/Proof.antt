@@ -1,48 +1,20 @@
--- `constraint::is_at_most` meets its contract: each answer of `compare` passes the test or not.
+-- `constraint::is_at_most` meets its contract: it is `compares` with its own test.
+use mathlib.Core.Path.{refl, _∙_}
+use mathlib.Core.Bool.{true}
 use borrow.Author.Needs.{needs}
 use Rattle.constraint.proofs.is_at_most.Statement.{statement}
 use Rattle.constraint.proofs.is_at_most.Tie as tie
-use Rattle.fraction.proofs.compare.Reads as compare-reads
+use Rattle.constraint.proofs.compares.Reads as compares-reads
+use Rattle.fraction.specs.Fraction.{compareOf}
 use Rattle.rules.specs.Values.{notGreater}
-use Rattle.constraint.proofs.Numbers.{passed}
+use Rattle.constraint.specs.Meaning.{equalOr}
+use Rattle.constraint.proofs.Numbers.{same-passes}
 
-compare-requires : tie.Need-compare-requires
-compare-requires c κs = search needs
-
-enum-told : tie.Need-enum-told
-enum-told c = search needs
-
-enum-told-2 : tie.Need-enum-told-2
-enum-told-2 c = search needs
-
-enum-told-3 : tie.Need-enum-told-3
-enum-told-3 c = search needs
-
-enum-told-4 : tie.Need-enum-told-4
-enum-told-4 c = search needs
+compares-requires : tie.Need-compares-requires
+compares-requires c κs = search needs
 
 returns : tie.Need-returns
-returns c = passed notGreater (c .before .before .compare .ensures) (c .enum-told .given .1)
-
-returns-2 : tie.Need-returns-2
-returns-2 c = passed notGreater (c .before .before .compare .ensures) (c .enum-told2 .given .1)
-
-returns-3 : tie.Need-returns-3
-returns-3 c = passed notGreater (c .before .before .compare .ensures) (c .enum-told3 .given .1)
-
-returns-4 : tie.Need-returns-4
-returns-4 c = passed notGreater (c .before .before .compare .ensures) (c .enum-told4 .given .1)
+returns c = c .compares .ensures ∙ same-passes (equalOr true) notGreater refl refl refl (compareOf (c .before .args .a) (c .before .args .b))
 
 pub is-at-most-spec : {M : Type 1} → statement M
-is-at-most-spec =
-    tie.close
-    (tie.spec
-    compare-requires
-    enum-told
-    enum-told-2
-    enum-told-3
-    enum-told-4
-    returns
-    returns-2
-    returns-3
-    returns-4)
+is-at-most-spec = tie.close (tie.spec compares-requires returns)

@@ -1,0 +1,193 @@
+-- From reading to verifying: what a taken text leaves in the tables, and what the answer says of what is spelled.
+-- Assumes nothing.
+use mathlib.Core.Path.{_≡_, refl, sym, _∙_, ap, subst}
+use mathlib.Core.Bool.{Bool, true, false, cond, _&&_}
+use mathlib.Core.List.{List}
+use mathlib.Core.Logic.{_↔_}
+use Prim.Native.Nat.{ℕ, _≤_}
+use native.Mathlib.Omega.{arith}
+use borrow.Author.Tests.{leb-true, le-leb}
+use lib.Dec.{leb}
+use lib.IntN.{ℤ, pos}
+use lib.ListN.{length}
+use Rattle.text.specs.Bytes.{Bytes}
+use Rattle.text.specs.Lines.{lineOf}
+use Rattle.fraction.specs.Meaning.{and-true, true-and}
+use Rattle.grammar.specs.Tree.{Tree}
+use Rattle.grammar.specs.Tables.{indexCells, valueCells, rowCells, indexTable, valueTable, rowTable}
+use Rattle.grammar.specs.Texts.{SpellsTree, ReadText, taken, refused, readOf, read-sound, read-complete}
+use Rattle.grammar.specs.declared.Refusal.{Refusal}
+use Rattle.rules.specs.Result as rules
+use Rattle.rules.specs.Tests.{not-true}
+use Rattle.rules.specs.Check.{checkOf}
+use Rattle.rules.specs.Meets.{Meets}
+use Rattle.rules.specs.Agreement.{check-says}
+use Rattle.reader.specs.Documents.{placesOf}
+use Rattle.reader.specs.Promise as reading
+use Rattle.reader.specs.Promise.{Course, not-begun, begun, hasCells, isShort, mostBytes, courseOf, tableOf, Begun, CertificateRead}
+use Rattle.reader.specs.declared.Places.{Places}
+use Rattle.reader.specs.declared.Reading.{Reading}
+use Rattle.reader.specs.declared.Reading.the-variants as read
+use Rattle.checker.specs.Held.{Held, CertificateIsThere}
+use Rattle.checker.specs.Answers.{verdictSays}
+use Rattle.checker.specs.Promise.{verifies, refuses, verificationSays, checkedSays, answerOf, CertificateVerified}
+use Rattle.checker.specs.declared.Verdict.{Verdict}
+use Rattle.checker.specs.declared.Verification.{Verification}
+use Rattle.checker.specs.declared.Verification.the-variants.{Verified, Refused}
+
+-- ---- answers
+
+not-verified : {X : Type 0} {n l : ℕ} → refuses n l ≡ verifies → X
+not-verified e = absurd (let z : _≡_ {A = ℕ} 0 1 = cc in omega arith)
+
+not-taken : {X : Type 0} {n l : ℕ} {p : Places} → reading.takes p ≡ reading.refuses n l → X
+not-taken e = absurd (let z : _≡_ {A = ℕ} 0 1 = cc in omega arith)
+
+-- a refusal of reading is the refusal of verifying
+pub refused-reading : (text : Bytes) (course : Course) {n l : ℕ} → reading.refuses n l ≡ reading.answerOf text course → refuses n l ≡ answerOf text course
+refused-reading text (not-begun reason) e = cc
+refused-reading text (begun (taken tree)) e = not-taken (sym e)
+refused-reading text (begun (refused reason place)) e = cc
+
+-- ---- what a taken text leaves
+
+pub record Taken (text : Bytes) (course : Course) (places : Places) : Type 0 where
+  pub tree : Tree
+  pub course-is : course ≡ begun (taken tree)
+  pub places-are : places ≡ placesOf tree
+
+taken-answer : (text : Bytes) (course : Course) (places : Places) → reading.takes places ≡ reading.answerOf text course → Taken text course places
+taken-answer text (not-begun reason) places e = not-taken e
+taken-answer text (begun (taken tree)) places e = record { tree = tree; course-is = refl; places-are = cc }
+taken-answer text (begun (refused reason place)) places e = not-taken e
+
+-- the course of a reading that was begun
+module _ (text : Bytes) (i v r : ℕ) where
+  course-begun : hasCells i v r ≡ true → isShort text ≡ true → courseOf text i v r ≡ begun (readOf text)
+  course-begun c s =
+      ap (λ (b : Bool). cond b (cond (isShort text) (begun (readOf text)) (not-begun 2)) (not-begun 1)) c
+      ∙ ap (λ (b : Bool). cond b (begun (readOf text)) (not-begun 2)) s
+
+  pub record BegunWith (read : ReadText) : Type 0 where
+    pub has-cells : hasCells i v r ≡ true
+    pub short : isShort text ≡ true
+    pub reads : readOf text ≡ read
+
+  begun-course : (read : ReadText) → courseOf text i v r ≡ begun read → BegunWith read
+  begun-course read e = go (hasCells i v r) (isShort text) refl refl e
+    where
+      go : (b c : Bool) → hasCells i v r ≡ b → isShort text ≡ c → cond b (cond c (begun (readOf text)) (not-begun 2)) (not-begun 1) ≡ begun read → BegunWith read
+      go true true p q f = record { has-cells = p; short = q; reads = cc }
+      go true false p q f = absurd (let z : _≡_ {A = ℕ} 0 1 = cc in omega arith)
+      go false c p q f = absurd (let z : _≡_ {A = ℕ} 0 1 = cc in omega arith)
+
+-- the tables of a text that was taken hold the tree that it spells
+module _ (text : Bytes) (index : List ℕ) (values : List ℤ) (rows : List ℕ) (index′ : List ℕ) (values′ : List ℤ) (rows′ : List ℕ) where
+  abbrev course : Course
+  course = courseOf text (length index) (length values) (length rows)
+
+  pub record TakenHeld (places : Places) : Type 0 where
+    pub tree : Tree
+    pub course-is : course ≡ begun (taken tree)
+    pub places-are : places ≡ placesOf tree
+    pub held : Held tree index′ values′ rows′
+
+  pub taken-held : (places : Places) → reading.takes places ≡ reading.answerOf text course
+      → index′ ≡ tableOf 0 indexTable index course → values′ ≡ tableOf (pos 0) valueTable values course → rows′ ≡ tableOf 0 rowTable rows course
+      → length index′ ≡ length index → length values′ ≡ length values → length rows′ ≡ length rows
+      → TakenHeld places
+  taken-held places e ei ev er li lv lr =
+      let t = taken-answer text course places e in
+      let b = begun-course text (length index) (length values) (length rows) (taken (t .tree)) (t .course-is) in
+      let c = and-true (leb indexCells (length index)) (leb valueCells (length values) && leb rowCells (length rows)) (b .has-cells) in
+      let q = leb-true rowCells (length rows) (and-true (leb valueCells (length values)) (leb rowCells (length rows)) (c .1) .1) in
+      record {
+        tree = t .tree;
+        course-is = t .course-is;
+        places-are = t .places-are;
+        held =
+            record {
+              text = text;
+              spelled = read-sound text (t .tree) (b .reads);
+              short = leb-true (length text) mostBytes (b .short);
+              index-is = ei ∙ ap (tableOf 0 indexTable index) (t .course-is) ∙ ap (λ (n : ℕ). indexTable n (t .tree)) (sym li);
+              values-is = ev ∙ ap (tableOf (pos 0) valueTable values) (t .course-is) ∙ ap (λ (n : ℕ). valueTable n (t .tree)) (sym lv);
+              rows-is = er ∙ ap (tableOf 0 rowTable rows) (t .course-is) ∙ ap (λ (n : ℕ). rowTable n (t .tree)) (sym lr);
+              row-cells = omega (arith, lr);
+            };
+      }
+
+-- ---- verified exactly if what is spelled meets the rules
+
+checked-fine : (text : Bytes) (v : rules.Verdict) → verifies ≡ checkedSays text v → v ≡ rules.fine
+checked-fine text (rules.done tt) e = refl
+checked-fine text (rules.refused reason place) e = not-verified (sym e)
+
+answered : (r : Verification) → verificationSays r ≡ verifies → r ≡ Verified
+answered Verified e = refl
+answered (Refused reason line) e = not-verified e
+
+pub exactly : (text : Bytes) (index : List ℕ) (values : List ℤ) (rows : List ℕ) (r : Verification)
+    → verificationSays r ≡ answerOf text (courseOf text (length index) (length values) (length rows))
+    → Begun text index values rows → (r ≡ Verified) ↔ ((tree : Tree) × SpellsTree text tree × Meets tree)
+exactly text index values rows r e b = (λ v. to (readOf text) refl (sym (ap verificationSays v) ∙ answer), λ h. answered r (answer ∙ from (h .0) (h .1) (h .2)))
+  where
+    answer : verificationSays r ≡ answerOf text (begun (readOf text))
+    answer =
+        e ∙ ap (answerOf text)
+        (course-begun text (length index) (length values) (length rows)
+        (true-and (leb indexCells (length index)) (leb valueCells (length values) && leb rowCells (length rows)) (le-leb _ _ (b .index-cells))
+        (true-and (leb valueCells (length values)) (leb rowCells (length rows)) (le-leb _ _ (b .value-cells)) (le-leb _ _ (b .row-cells))))
+        (le-leb _ _ (b .short)))
+
+    to : (read : ReadText) → readOf text ≡ read → verifies ≡ answerOf text (begun read) → (tree : Tree) × SpellsTree text tree × Meets tree
+    to (taken tree) q v = (tree, read-sound text tree q, check-says tree .0 (checked-fine text (checkOf tree) v))
+    to (refused reason place) q v = not-verified (sym v)
+
+    from : (tree : Tree) → SpellsTree text tree → Meets tree → answerOf text (begun (readOf text)) ≡ verifies
+    from tree s m = ap (λ (x : ReadText). answerOf text (begun x)) (read-complete text tree s) ∙ ap (checkedSays text) (check-says tree .1 m)
+
+-- ---- the promise, from reading's
+
+module _ {text : Bytes} {index : List ℕ} {values : List ℤ} {rows : List ℕ} {index′ : List ℕ} {values′ : List ℤ} {rows′ : List ℕ} where
+  -- reading refused
+  pub refused-verified : (reason : Refusal) (line : ℕ) {r : Reading} → CertificateRead text index values rows index′ values′ rows′ r → r ≡ read.Refused reason line
+      → CertificateVerified text index values rows index′ values′ rows′ (Refused reason line)
+  refused-verified reason line h e =
+      let q = h .equations in
+      let answer = refused-reading text (courseOf text (length index) (length values) (length rows)) (sym (ap reading.readingSays e) ∙ q .answer) in
+      record {
+        answer = answer;
+        index-table = q .index-table;
+        value-table = q .value-table;
+        row-table = q .row-table;
+        verified-exactly = exactly text index values rows (Refused reason line) answer;
+      }
+
+  module _ (li : length index′ ≡ length index) (lv : length values′ ≡ length values) (lr : length rows′ ≡ length rows) (places : Places) {r : Reading}
+      (h : CertificateRead text index values rows index′ values′ rows′ r) (e : r ≡ read.Taken places) where
+    the-tree : TakenHeld text index values rows index′ values′ rows′ places
+    the-tree =
+        let q = h .equations in
+        taken-held text index values rows index′ values′ rows′ places (sym (ap reading.readingSays e) ∙ q .answer) (q .index-table) (q .value-table) (q .row-table) li lv lr
+
+    -- the tables hold what was read
+    pub certificate-there : CertificateIsThere index′ values′ rows′ places
+    certificate-there = (the-tree .tree, the-tree .held, the-tree .places-are)
+
+    -- and it was checked
+    pub checked-verified : {v w : Verdict} (a : Verification) → ((tree : Tree) → Held tree index′ values′ rows′ → places ≡ placesOf tree → verdictSays v ≡ checkOf tree)
+        → v ≡ w → verificationSays a ≡ checkedSays text (verdictSays w)
+        → CertificateVerified text index values rows index′ values′ rows′ a
+    checked-verified a check is says =
+        let q = h .equations in
+        let t = the-tree in
+        let answer : verificationSays a ≡ answerOf text (courseOf text (length index) (length values) (length rows)) =
+        says ∙ ap (λ (x : Verdict). checkedSays text (verdictSays x)) (sym is) ∙ ap (checkedSays text) (check (t .tree) (t .held) (t .places-are)) ∙ sym (ap (answerOf text) (t .course-is)) in
+        record {
+          answer = answer;
+          index-table = q .index-table;
+          value-table = q .value-table;
+          row-table = q .row-table;
+          verified-exactly = exactly text index values rows a answer;
+        }

@@ -1,0 +1,48 @@
+-- `constraint::compares` meets its contract: each answer of `compare` passes the test or not.
+use borrow.Author.Needs.{needs}
+use Rattle.constraint.proofs.compares.Statement.{statement}
+use Rattle.constraint.proofs.compares.Tie as tie
+use Rattle.fraction.proofs.compare.Reads as compare-reads
+use Rattle.constraint.specs.Meaning.{equalOr}
+use Rattle.constraint.proofs.Numbers.{passed}
+
+compare-requires : tie.Need-compare-requires
+compare-requires c κs = search needs
+
+enum-told : tie.Need-enum-told
+enum-told c = search needs
+
+enum-told-2 : tie.Need-enum-told-2
+enum-told-2 c = search needs
+
+enum-told-3 : tie.Need-enum-told-3
+enum-told-3 c = search needs
+
+enum-told-4 : tie.Need-enum-told-4
+enum-told-4 c = search needs
+
+returns : tie.Need-returns
+returns c = passed (equalOr (c .before .before .before .args .less)) (c .before .before .compare .ensures) (c .enum-told .given .1)
+
+returns-2 : tie.Need-returns-2
+returns-2 c = passed (equalOr (c .before .before .before .args .less)) (c .before .before .compare .ensures) (c .enum-told2 .given .1)
+
+returns-3 : tie.Need-returns-3
+returns-3 c = passed (equalOr (c .before .before .before .args .less)) (c .before .before .compare .ensures) (c .enum-told3 .given .1)
+
+returns-4 : tie.Need-returns-4
+returns-4 c = passed (equalOr (c .before .before .before .args .less)) (c .before .before .compare .ensures) (c .enum-told4 .given .1)
+
+pub compares-spec : {M : Type 1} → statement M
+compares-spec =
+    tie.close
+    (tie.spec
+    compare-requires
+    enum-told
+    enum-told-2
+    enum-told-3
+    enum-told-4
+    returns
+    returns-2
+    returns-3
+    returns-4)
