@@ -1,10 +1,9 @@
--- The sets of a whole certificate as masks, derivation after derivation: "1,024 assumption sets, all empty at the start". One
--- law for the start, one for each reason, and one for the end.
+-- The sets of a whole certificate as masks, derivation after derivation: "1,024 assumption sets, all empty at the start". What
+-- the mask of each derivation is, by its reason; one law for the start, one for the next derivation, and one for the end.
 -- Assumes nothing.
 use mathlib.Core.Path.{_≡_, refl, sym, _∙_, ap, subst, subst₂}
 use mathlib.Core.Bool.{Bool, true, false, cond, _&&_}
 use mathlib.Core.List.{List, [], _∷_, _++_, map, append-nil}
-use mathlib.Core.Logic.{_↔_, inl, inr, ⊎-elim}
 use Prim.Native.Nat.{ℕ, zero, suc, _+_, _-_, _<_, _≤_, max}
 use native.Mathlib.Nat.{add-zero, zero-add}
 use native.Mathlib.Omega.{arith}
@@ -12,24 +11,24 @@ use borrow.Author.Tests.{eqb-true, eqb-false, ltb-true, ltb-false}
 use lib.Dec.{eqb, ltb}
 use lib.ListN.{length, getD, set, take, drop, replicate, take-append-drop, length-append, length-set, length-replicate, getD-replicate, length-map, List·getD-map, List·getD-append, List·getD-eq-default}
 use lib.Seq.{take-all, length-take-le, take-suc, split-at, getD-at, getD-set-same, getD-set-other}
-use Rattle.grammar.specs.Tree.{Row, Multiplier, MultiplierList, Unsplit, Reason, asm, lin, rnd, uns, sol, Derivation, Tree}
+use Rattle.grammar.specs.Tree.{Row, Multiplier, Reason, asm, lin, rnd, uns, sol, Derivation, Tree}
 use Rattle.grammar.specs.Certificate.{isAssumption, assumptions}
 use Rattle.grammar.specs.Ranges.{ReasonInRange, TreeInRange}
-use Rattle.rules.specs.Tests.{In, Decides}
+use Rattle.rules.specs.Tests.{Decides, failed}
 use Rattle.rules.specs.Rows.{givenRow, derivedRow, noRow, entryAt}
 use Rattle.rules.specs.RowsLaws.{entry-given, entry-derived}
-use Rattle.rules.specs.Splits.{IsAssumption}
+use Rattle.rules.specs.Splits.{IsAssumption, assumed}
+use Rattle.rules.specs.SplitsLaws.{decides-assumed}
 use Rattle.rules.specs.Assumptions.{HasReason, without, unionOf, setFor, setsFrom, setsOf, assumptionsOf, isEmpty}
-use Rattle.rules.specs.AssumptionsLaws.{in-union}
 use Rattle.sets.specs.Sets.{bit, one}
-use Rattle.sets.specs.SetsLaws.{bit-lt, bit-zero}
-use Rattle.sets.specs.Represents.{either-bit, Represents, Increasing, represents-none, represents-more, represents-single, represents-union, represents-without, represents-empty, increasing-none, increasing-more}
+use Rattle.sets.specs.SetsLaws.{bit-zero}
+use Rattle.sets.specs.Represents.{Represents, Increasing, represents-as, each-more, represents-none, represents-more, represents-single, represents-union, represents-without, without-stranger, represents-empty, increasing-none, increasing-more}
 
 -- ---- all masks at once
 
 -- each mask represents the set of the same row
 pub record Shows (asms masks : List ℕ) (sets : List (List ℕ)) : Type 0 where
-  pub each : (i : ℕ) → Represents asms (getD masks i 0) (getD sets i [])
+  pub each : (i : ℕ) → Represents asms (bit (getD masks i 0)) (getD sets i [])
 
 getD-other : {A : Type 0} (xs : List A) (x d : A) (i : ℕ) → (i ≡ length xs → ⊥) → getD (xs ++ (x ∷ [])) i d ≡ getD xs i d
 getD-other xs x d i ne = go (ltb i (length xs)) refl
@@ -40,11 +39,11 @@ getD-other xs x d i ne = go (ltb i (length xs)) refl
         let h = ltb-false i (length xs) e in
         List·getD-eq-default (xs ++ (x ∷ [])) d (omega (arith, length-append xs (x ∷ []))) ∙ sym (List·getD-eq-default xs d h)
 
-shows-next : {asms masks : List ℕ} {sets : List (List ℕ)} (own r : ℕ) (s : List ℕ) → own ≡ length sets → own < length masks → Shows asms masks sets → Represents asms r s
+shows-next : {asms masks : List ℕ} {sets : List (List ℕ)} (own r : ℕ) (s : List ℕ) → own ≡ length sets → own < length masks → Shows asms masks sets → Represents asms (bit r) s
     → Shows asms (set masks own r) (sets ++ (s ∷ []))
 shows-next {asms} {masks} {sets} own r s e h p q = record { each = λ i. go i (eqb i own) refl }
   where
-    go : (i : ℕ) (t : Bool) → eqb i own ≡ t → Represents asms (getD (set masks own r) i 0) (getD (sets ++ (s ∷ [])) i [])
+    go : (i : ℕ) (t : Bool) → eqb i own ≡ t → Represents asms (bit (getD (set masks own r) i 0)) (getD (sets ++ (s ∷ [])) i [])
     go i true f = rw (eqb-true i own f, getD-set-same masks own r 0 h, getD-at sets s [] [] own (sym e)) q
     go i false f =
         let ne = eqb-false i own f in
@@ -53,50 +52,41 @@ shows-next {asms} {masks} {sets} own r s e h p q = record { each = λ i. go i (e
 shows-more : {asms masks : List ℕ} {sets : List (List ℕ)} (b : ℕ) → Shows asms masks sets → Shows (asms ++ (b ∷ [])) masks sets
 shows-more b p = record { each = λ i. represents-more b (p .each i) }
 
--- ---- "`lin`, `rnd` the union"
+-- ---- the mask of one derivation more, bit by bit, from the masks so far
 
--- 1 where j is in one of the masks of the rows that multipliers name, else 0
-abbrev pub unionBit : List ℕ → List Multiplier → ℕ → ℕ
+-- whether j is in the set of one of these rows
+abbrev pub unionBit : List ℕ → List ℕ → ℕ → ℕ
 unionBit masks [] j = 0
-unionBit masks (m ∷ ms) j = max (bit (getD masks (m .row) 0) j) (unionBit masks ms j)
+unionBit masks (i ∷ rows) j = max (bit (getD masks i 0) j) (unionBit masks rows j)
 
-union-lt : (masks : List ℕ) (ms : List Multiplier) (j : ℕ) → unionBit masks ms j < 2
-union-lt masks [] j = omega arith
-union-lt masks (m ∷ ms) j = omega (arith, union-lt masks ms j, bit-lt (getD masks (m .row) 0) j)
+-- whether it is in the set m without the row l: only an `asm` row is in a set
+abbrev pub withoutBit : Tree → List ℕ → ℕ → ℕ → ℕ → ℕ
+withoutBit tree masks m l j = cond (assumed (entryAt tree l)) (bit m j - bit (getD masks l 0) j) (bit m j)
 
-union-bit : (masks : List ℕ) (ms : List Multiplier) (j : ℕ) → (unionBit masks ms j ≡ 1) ↔ ((m : Multiplier) × In m ms × (bit (getD masks (m .row) 0) j ≡ 1))
-union-bit masks [] j = ((λ e. absurd (omega arith)), λ h. absurd (h .1))
-union-bit masks (m ∷ ms) j =
-    let r = union-bit masks ms j in
-    let small = union-lt masks ms j in
-    let first = either-bit (getD masks (m .row) 0) j in (
-      (λ e. ⊎-elim (λ z. let q = r .0 (omega (arith, e, z)) in (q .0, inr (q .1), q .2)) (λ o. (m, inl refl, o)) first),
-      λ h. ⊎-elim (λ e. let o = ap (λ (n : Multiplier). bit (getD masks (n .row) 0) j) e ∙ h .2 in omega (arith, o, small)) (λ k. omega (arith, r .1 (h .0, k, h .2), bit-lt (getD masks (m .row) 0) j)) (h .1),
-    )
+-- whether it is in the set of a row that is derived for this reason, after n `asm` rows
+abbrev pub reasonBit : Tree → List ℕ → ℕ → Reason → ℕ → ℕ
+reasonBit tree masks n asm j = one (eqb j n && ltb n 64)
+reasonBit tree masks n (lin ms) j = unionBit masks (map (λ (m : Multiplier). m .row) (ms .multipliers)) j
+reasonBit tree masks n (rnd ms) j = unionBit masks (map (λ (m : Multiplier). m .row) (ms .multipliers)) j
+reasonBit tree masks n (uns u) j = max (withoutBit tree masks (getD masks (u .i1) 0) (u .l1) j) (withoutBit tree masks (getD masks (u .i2) 0) (u .l2) j)
+reasonBit tree masks n sol j = 0
 
-represents-named : {asms masks : List ℕ} {sets : List (List ℕ)} → Shows asms masks sets → (ms : List Multiplier) (r : ℕ) → ((j : ℕ) → bit r j ≡ unionBit masks ms j) → Represents asms r (unionOf sets ms)
-represents-named {asms} {masks} {sets} p ms r bits =
-    record {
-      listed = λ a h.
-          let m = in-union a sets ms .0 h in
-          let z = p .each (m .0 .row) .listed a (m .2) in
-          (z .0, z .1, z .2, bits (z .0) ∙ union-bit masks ms (z .0) .1 (m .0, m .1, z .3));
-      marked = λ k h.
-          let m = union-bit masks ms k .0 (sym (bits k) ∙ h) in
-          let z = p .each (m .0 .row) .marked k (m .2) in
-          (z .0, in-union (getD asms k 0) sets ms .1 (m .0, m .1, z .1));
-    }
+-- a loop over rows, from the empty set on: the set so far, and those of the rows that are left
+pub union-start : (masks rows : List ℕ) (j : ℕ) → max (bit 0 j) (unionBit masks rows j) ≡ unionBit masks rows j
+union-start masks rows j = omega (arith, bit-zero j)
 
--- a loop over the multipliers, from the empty set on: the masks so far, and those of the rows that are left
-pub union-start : (masks : List ℕ) (ms : List Multiplier) (j : ℕ) → max (bit 0 j) (unionBit masks ms j) ≡ unionBit masks ms j
-union-start masks ms j = omega (arith, bit-zero j)
-
-pub union-on : (masks : List ℕ) (acc r : ℕ) (m : Multiplier) (ms : List Multiplier) → ((j : ℕ) → bit r j ≡ max (bit acc j) (bit (getD masks (m .row) 0) j))
-    → (j : ℕ) → max (bit r j) (unionBit masks ms j) ≡ max (bit acc j) (unionBit masks (m ∷ ms) j)
-union-on masks acc r m ms bits j = omega (arith, bits j)
+pub union-on : (masks : List ℕ) (acc r i : ℕ) (rows : List ℕ) → ((j : ℕ) → bit r j ≡ max (bit acc j) (bit (getD masks i 0) j))
+    → (j : ℕ) → max (bit r j) (unionBit masks rows j) ≡ max (bit acc j) (unionBit masks (i ∷ rows) j)
+union-on masks acc r i rows bits j = omega (arith, bits j)
 
 pub union-end : (masks : List ℕ) (r j : ℕ) → max (bit r j) (unionBit masks [] j) ≡ bit r j
 union-end masks r j = omega arith
+
+-- "`lin`, `rnd` the union"
+represents-named : {asms masks : List ℕ} {sets : List (List ℕ)} → Shows asms masks sets → (ms : List Multiplier)
+    → Represents asms (unionBit masks (map (λ (m : Multiplier). m .row) ms)) (unionOf sets ms)
+represents-named {asms} p [] = represents-none asms
+represents-named p (m ∷ ms) = represents-union (p .each (m .row)) (represents-named p ms)
 
 -- ---- the asm rows
 
@@ -175,6 +165,7 @@ pub record At (tree : Tree) (asms : List ℕ) (sets : List (List ℕ)) (upto n :
   pub counted : length asms ≡ n
   pub increasing : Increasing asms
   pub below : (j : ℕ) → j < length asms → getD asms j 0 < upto
+  pub are-asm : (j : ℕ) → j < length asms → IsAssumption (entryAt tree (getD asms j 0))
   pub whole : length masks ≡ 1024
   pub shows : Shows asms masks sets
   pub alone : (i : ℕ) → i < upto → IsAssumption (entryAt tree i) → getD sets i [] ≡ i ∷ []
@@ -197,35 +188,31 @@ module _ {tree : Tree} {asms : List ℕ} {sets : List (List ℕ)} {own n : ℕ} 
           getD-other sets new [] i (λ z. ne (z ∙ at .numbered)) ∙ at .alone i (omega (arith, ne)) a
 
   at-next : {more : List ℕ} {count : ℕ} (why : Reason) → HasReason tree own why → (r : ℕ) → length more ≡ count → Increasing more → ((j : ℕ) → j < length more → getD more j 0 < own + 1)
-      → Shows more masks sets → Represents more r (setFor sets own why)
+      → ((j : ℕ) → j < length more → IsAssumption (entryAt tree (getD more j 0)))
+      → Shows more masks sets → Represents more (bit r) (setFor sets own why)
       → At tree more (sets ++ (setFor sets own why ∷ [])) (own + 1) count (set masks own r)
-  at-next why has r c up low p q =
+  at-next why has r c up low are p q =
       record {
         numbered = length-append sets (setFor sets own why ∷ []) ∙ ap (λ (l : ℕ). l + 1) (at .numbered);
         counted = c;
         increasing = up;
         below = low;
+        are-asm = are;
         whole = length-set masks own r ∙ at .whole;
         shows = shows-next own r (setFor sets own why) (sym (at .numbered)) (omega (arith, at .whole)) p q;
         alone = alone-next why has;
       }
 
-  at-plain : (why : Reason) → HasReason tree own why → (r : ℕ) → Represents asms r (setFor sets own why) → At tree asms (sets ++ (setFor sets own why ∷ [])) (own + 1) n (set masks own r)
-  at-plain why has r p = at-next why has r (at .counted) (at .increasing) (λ j h. omega (arith, at .below j h)) (at .shows) p
+  at-plain : (why : Reason) → HasReason tree own why → (r : ℕ) → Represents asms (bit r) (setFor sets own why) → At tree asms (sets ++ (setFor sets own why ∷ [])) (own + 1) n (set masks own r)
+  at-plain why has r p = at-next why has r (at .counted) (at .increasing) (λ j h. omega (arith, at .below j h)) (at .are-asm) (at .shows) p
 
   at-asm : HasReason tree own asm → (r : ℕ) → n < 64 → ((j : ℕ) → bit r j ≡ one (eqb j n && ltb n 64)) → At tree (asms ++ (own ∷ [])) (sets ++ ((own ∷ []) ∷ [])) (own + 1) (n + 1) (set masks own r)
   at-asm has r few bits =
-      at-next asm has r (length-append asms (own ∷ []) ∙ ap (λ (l : ℕ). l + 1) (at .counted)) (increasing-more asms own (at .increasing) (at .below)) low (shows-more own (at .shows))
-      (represents-single asms own r (omega (arith, at .counted)) (rw (at .counted) bits))
-    where
-      low : (j : ℕ) → j < length (asms ++ (own ∷ [])) → getD (asms ++ (own ∷ [])) j 0 < own + 1
-      low j h = go (eqb j (length asms)) refl
-        where
-          go : (t : Bool) → eqb j (length asms) ≡ t → getD (asms ++ (own ∷ [])) j 0 < own + 1
-          go true e = rw (getD-at asms own [] 0 j (sym (eqb-true j (length asms) e))) (omega arith)
-          go false e =
-              let ne = eqb-false j (length asms) e in
-              rw (getD-other asms own 0 j ne) (omega (arith, at .below j (omega (arith, ne, h, length-append asms (own ∷ [])))))
+      at-next asm has r (length-append asms (own ∷ []) ∙ ap (λ (l : ℕ). l + 1) (at .counted)) (increasing-more asms own (at .increasing) (at .below))
+      (each-more (λ (i : ℕ). i < own + 1) asms own (λ j h. omega (arith, at .below j h)) (omega arith))
+      (each-more (λ (i : ℕ). IsAssumption (entryAt tree i)) asms own (at .are-asm) (subst IsAssumption (sym (has .1)) (has .2)))
+      (shows-more own (at .shows))
+      (represents-as (λ j. sym (rw (at .counted) (bits j))) (represents-single asms own (omega (arith, at .counted))))
 
 module _ (tree : Tree) where
   abbrev pub given : ℕ
@@ -252,8 +239,9 @@ stand-start tree =
             counted = refl;
             increasing = increasing-none;
             below = λ j h. absurd (omega arith);
+            are-asm = λ j h. absurd (omega arith);
             whole = length-replicate {A = ℕ} 1024 0;
-            shows = record { each = λ i. rw (none i, List·getD-map {B = List ℕ} (λ (row : Row). []) rows i noRow) (represents-none []) };
+            shows = record { each = λ i. rw (none i, List·getD-map {B = List ℕ} (λ (row : Row). []) rows i noRow) (represents-as (λ k. sym (bit-zero k)) (represents-none [])) };
             alone = λ i h a. absurd (subst IsAssumption (entry-given tree i (omega arith)) a);
           };
     }
@@ -327,13 +315,13 @@ module _ {tree : Tree} (t : TreeInRange tree) {k n : ℕ} {masks : List ℕ} (no
         }
 
     -- no asm row
-    stand-plain : (r : ℕ) → isAssumption why ≡ false → Represents asms r (setFor sets own why) → Stand tree (k + 1) n (set masks own r)
+    stand-plain : (r : ℕ) → isAssumption why ≡ false → Represents asms (bit r) (setFor sets own why) → Stand tree (k + 1) n (set masks own r)
     stand-plain r e p =
         let same : asms ≡ asms ++ cond (isAssumption why) (own ∷ []) [] = sym (ap (λ (b : Bool). asms ++ cond b (own ∷ []) []) e ∙ append-nil asms) in
         stand-by r (subst (λ (l : List ℕ). At tree l (sets ++ (setFor sets own why ∷ [])) (own + 1) n (set masks own r)) same (at-plain at-own own-small why has r p))
 
   -- "`asm` is itself alone"
-  pub stand-asm : (r : ℕ) → HasReason tree own asm → ((j : ℕ) → bit r j ≡ one (eqb j n && ltb n 64)) → Stand tree (k + 1) (n + 1) (set masks own r)
+  stand-asm : (r : ℕ) → HasReason tree own asm → ((j : ℕ) → bit r j ≡ one (eqb j n && ltb n 64)) → Stand tree (k + 1) (n + 1) (set masks own r)
   stand-asm r has bits = stand-by asm has r (at-asm at-own (own-small asm has) has r few bits)
     where
       rest : List Derivation
@@ -348,32 +336,30 @@ module _ {tree : Tree} (t : TreeInRange tree) {k n : ℕ} {masks : List ℕ} (no
       few : n < 64
       few = omega (arith, counted, t .assumptions-most)
 
-  -- "`lin`, `rnd` the union"
-  pub stand-lin : (ms : MultiplierList) (r : ℕ) → HasReason tree own (lin ms) → ((j : ℕ) → bit r j ≡ unionBit masks (ms .multipliers) j) → Stand tree (k + 1) n (set masks own r)
-  stand-lin ms r has bits = stand-plain (lin ms) has r refl (represents-named (now .at .shows) (ms .multipliers) r bits)
+  -- the set m of a row without the row l
+  without-row : (i l : ℕ) → l < own → Represents asms (withoutBit tree masks (getD masks i 0) l) (without l (getD sets i []))
+  without-row i l h = go (assumed (entryAt tree l)) (decides-assumed (entryAt tree l))
+    where
+      go : (t : Bool) → Decides t (IsAssumption (entryAt tree l))
+          → Represents asms (λ j. cond t (bit (getD masks i 0) j - bit (getD masks l 0) j) (bit (getD masks i 0) j)) (without l (getD sets i []))
+      go true d =
+          represents-without (at-own .increasing) (at-own .shows .each i)
+          (subst (Represents asms (bit (getD masks l 0))) (at-own .alone l h (d .0 refl)) (at-own .shows .each l))
+      go false d =
+          without-stranger (λ j m e. failed d refl (subst (λ (a : ℕ). IsAssumption (entryAt tree a)) e (at-own .are-asm j m))) (at-own .shows .each i)
 
-  pub stand-rnd : (ms : MultiplierList) (r : ℕ) → HasReason tree own (rnd ms) → ((j : ℕ) → bit r j ≡ unionBit masks (ms .multipliers) j) → Stand tree (k + 1) n (set masks own r)
-  stand-rnd ms r has bits = stand-plain (rnd ms) has r refl (represents-named (now .at .shows) (ms .multipliers) r bits)
-
-  -- the set of a row without an asm row
-  without-row : (i l r : ℕ) → l < own → IsAssumption (entryAt tree l) → ((j : ℕ) → bit r j ≡ bit (getD masks i 0) j - bit (getD masks l 0) j) → Represents asms r (without l (getD sets i []))
-  without-row i l r h a bits =
-      represents-without (at-own .increasing) (at-own .shows .each i) (subst (Represents asms (getD masks l 0)) (at-own .alone l h a) (at-own .shows .each l)) bits
-
-  -- "`uns` A(i1) without l1 joined with A(i2) without l2"; "both l rows are `asm` rows"
-  pub stand-uns : (u : Unsplit) (a b r : ℕ) → HasReason tree own (uns u) → IsAssumption (entryAt tree (u .l1)) × IsAssumption (entryAt tree (u .l2))
-      → ((j : ℕ) → bit a j ≡ bit (getD masks (u .i1) 0) j - bit (getD masks (u .l1) 0) j)
-      → ((j : ℕ) → bit b j ≡ bit (getD masks (u .i2) 0) j - bit (getD masks (u .l2) 0) j)
-      → ((j : ℕ) → bit r j ≡ max (bit a j) (bit b j))
-      → Stand tree (k + 1) n (set masks own r)
-  stand-uns u a b r has split first second both =
+  -- by its reason
+  pub stand-next : (why : Reason) (r : ℕ) → HasReason tree own why → ((j : ℕ) → bit r j ≡ reasonBit tree masks n why j) → Stand tree (k + 1) (cond (isAssumption why) (n + 1) n) (set masks own r)
+  stand-next asm r has bits = stand-asm r has bits
+  stand-next (lin ms) r has bits = stand-plain (lin ms) has r refl (represents-as (λ j. sym (bits j)) (represents-named (now .at .shows) (ms .multipliers)))
+  stand-next (rnd ms) r has bits = stand-plain (rnd ms) has r refl (represents-as (λ j. sym (bits j)) (represents-named (now .at .shows) (ms .multipliers)))
+  -- "`uns` A(i1) without l1 joined with A(i2) without l2"
+  stand-next (uns u) r has bits =
       let range = in-range (uns u) has in
       stand-plain (uns u) has r refl
-      (represents-union (without-row (u .i1) (u .l1) a (range .1) (split .0) first) (without-row (u .i2) (u .l2) b (range .3) (split .1) second) both)
-
+      (represents-as (λ j. sym (bits j)) (represents-union (without-row (u .i1) (u .l1) (range .1)) (without-row (u .i2) (u .l2) (range .3))))
   -- "`sol` and given rows empty"
-  pub stand-sol : HasReason tree own sol → Stand tree (k + 1) n (set masks own 0)
-  stand-sol has = stand-plain sol has 0 refl (represents-none asms)
+  stand-next sol r has bits = stand-plain sol has r refl (represents-as (λ j. sym (bits j)) (represents-none asms))
 
 -- ---- at the end
 
@@ -389,7 +375,7 @@ unfolding assumptionsOf setsOf
 stand-end {tree} {k} {n} {masks} now done i =
     let start = map (λ (row : Row). []) (tree .constraints .rows) in
     represents-empty
-    (subst (λ (ds : List Derivation). Represents (asmsAfter tree k) (getD masks i 0) (getD (setsFrom start ds) i [])) (take-all k (tree .derivations .derivations) done) (now .at .shows .each i))
+    (subst (λ (ds : List Derivation). Represents (asmsAfter tree k) (bit (getD masks i 0)) (getD (setsFrom start ds) i [])) (take-all k (tree .derivations .derivations) done) (now .at .shows .each i))
 
 -- so the test of a mask is the test of rules
 pub stand-empty : {tree : Tree} {k n : ℕ} {masks : List ℕ} → Stand tree k n masks → length (tree .derivations .derivations) ≤ k → (i : ℕ) (r : Bool)
