@@ -8,13 +8,18 @@ ghost use Rattle.grammar.specs.Tree.{Tree};
 ghost use Rattle.rules.specs.Tests.{Decides};
 ghost use Rattle.rules.specs.Assumptions.{assumptionsOf, isEmpty};
 ghost use Rattle.sets.specs.Sets.{bit};
-ghost use Rattle.checker.specs.Held.{Stands, Found};
+ghost use Rattle.sets.specs.Course.{unionBit, withoutBit, reasonBit};
+ghost use Rattle.checker.specs.Tables.{cellsAt, NamedBelow};
+ghost use Rattle.checker.specs.Held.{derivationAt, Stands, Found};
 use crate::derivations;
 use crate::tables;
 use crate::tables::Frame;
 
 // The union of the sets of the rows that stand in so many cells.
-fn union_of(index: &[u16], all: &[u64; 1024], cell: usize, count: usize) -> u64 {
+fn union_of(index: &[u16], all: &[u64; 1024], cell: usize, count: usize) -> u64
+    requires { ⌜ NamedBelow (now index) 1024 cell count ⌝ }
+    ensures { λ s. ⌜ ((j : ℕ) → bit s j ≡ unionBit (now (all .entry)) (cellsAt (now (index .entry)) cell count) j) ⌝ }
+{
     let mut union = 0;
     let mut at = cell;
     let mut left = count;
@@ -35,7 +40,10 @@ fn without_row(
     all: &[u64; 1024],
     set: u64,
     l: usize,
-) -> u64 {
+) -> u64
+    requires { ⌜ Found frame (now index) (now rows) × (l < frame .given + frame .derived) ⌝ }
+    ensures { λ s. ⌜ ((tree : Tree) (values : List ℤ) → Stands tree frame (now (index .entry)) values (now (rows .entry)) → (j : ℕ) → bit s j ≡ withoutBit tree (now (all .entry)) set l j) ⌝ }
+{
     if derivations::is_assumption(index, rows, frame, l) {
         sets::without(set, all[l])
     } else {
@@ -51,7 +59,10 @@ fn set_of(
     all: &[u64; 1024],
     k: usize,
     assumed: usize,
-) -> u64 {
+) -> u64
+    requires { ⌜ Found frame (now index) (now rows) × (k < frame .derived) ⌝ }
+    ensures { λ s. ⌜ ((tree : Tree) (values : List ℤ) → Stands tree frame (now (index .entry)) values (now (rows .entry)) → (j : ℕ) → bit s j ≡ reasonBit tree (now (all .entry)) assumed (derivationAt tree k .reason) j) ⌝ }
+{
     let cell = tables::reason_at(index, rows, frame.given + k);
     let word = index[cell];
     if word == 0 {
