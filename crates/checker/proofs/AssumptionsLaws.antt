@@ -11,16 +11,17 @@ use native.Mathlib.Omega.{arith}
 use lib.Dec.{eqb, ltb}
 use lib.IntN.{ℤ}
 use lib.ListN.{length, getD, set}
-use Rattle.grammar.specs.Tree.{Multiplier, Unsplit, Reason, asm, lin, rnd, uns, sol, Tree}
+use Rattle.grammar.specs.Tree.{Multiplier, Reason, asm, lin, rnd, uns, sol, Tree}
+use Rattle.grammar.specs.Certificate.{isAssumption}
 use Rattle.rules.specs.Tests.{Decides}
-use Rattle.rules.specs.Rows.{Entry, derivedRow, entryAt}
+use Rattle.rules.specs.Rows.{derivedRow, entryAt}
 use Rattle.rules.specs.Splits.{assumed}
 use Rattle.rules.specs.Assumptions.{assumptionsOf, isEmpty}
 use Rattle.sets.specs.Sets.{bit, one}
 use Rattle.sets.specs.SetsLaws.{bit-zero}
 use Rattle.sets.specs.Course.{unionBit, withoutBit, reasonBit, union-start, union-on, union-end, Stand, stand-next, stand-end}
 use Rattle.checker.specs.Tables.{listedAt, aMultiplier, multipliersAt, Listed, cellsAt, NamedBelow, pairsFrom, reasonAt, reasonValuesAt}
-use Rattle.checker.specs.Held.{cellOf, numberOf, wordOf, UnsplitStands, UnsplitIsThere, ReasonStands, derivationAt, Stands}
+use Rattle.checker.specs.Held.{cellOf, numberOf, wordOf, ReasonStands, derivationAt, Stands}
 use Rattle.checker.specs.HeldLaws.{entry-derived}
 use Rattle.checker.specs.declared.tables.Frame.{Frame}
 
@@ -36,6 +37,18 @@ module _ {index : List ℕ} {bound cell left : ℕ} (g : NamedBelow index bound 
         inside = omega (arith, g .inside);
         small = λ k l. let q : cell + (k + 1) ≡ cell + 1 + k = omega arith in subst (λ (j : ℕ). getD index j 0 < bound) q (g .small (k + 1) (omega arith));
       }
+
+pub below-more : {index : List ℕ} {own bound cell count : ℕ} → own ≤ bound → NamedBelow index own cell count → NamedBelow index bound cell count
+below-more le g = record { inside = g .inside; small = λ k h. let s = g .small k h in omega arith }
+
+-- two cells
+two-named : (index : List ℕ) (bound cell : ℕ) → cell + 1 < length index → getD index cell 0 < bound → getD index (cell + 1) 0 < bound → NamedBelow index bound cell 2
+two-named index bound cell h p q = record { inside = omega arith; small = small }
+  where
+    small : (k : ℕ) → k < 2 → getD index (cell + k) 0 < bound
+    small zero l = subst (λ (i : ℕ). getD index i 0 < bound) (sym (add-zero cell)) p
+    small (suc zero) l = q
+    small (suc (suc k)) l = absurd (omega arith)
 
 module _ (index : List ℕ) where
   cells-next : (cell left : ℕ) → 0 < left → cellsAt index cell left ≡ getD index cell 0 ∷ cellsAt index (cell + 1) (left - 1)
@@ -84,12 +97,12 @@ module _ (index masks : List ℕ) where
 -- ---- a set without a row
 
 -- whether the row is an assumption, a call answered with r
-module _ (tree : Tree) (masks : List ℕ) (m l : ℕ) {r : Bool} (e : r ≡ assumed (entryAt tree l)) where
-  pub without-yes : r ≡ true → (j : ℕ) → bit m j - bit (getD masks l 0) j ≡ withoutBit tree masks m l j
-  without-yes t j = ap (λ (b : Bool). cond b (bit m j - bit (getD masks l 0) j) (bit m j)) (sym t ∙ e)
+module _ (tree : Tree) (masks : List ℕ) (i l : ℕ) {r : Bool} (e : r ≡ assumed (entryAt tree l)) where
+  pub without-yes : r ≡ true → (j : ℕ) → bit (getD masks i 0) j - bit (getD masks l 0) j ≡ withoutBit tree masks i l j
+  without-yes t j = let m = bit (getD masks i 0) j in ap (λ (b : Bool). cond b (m - bit (getD masks l 0) j) m) (sym t ∙ e)
 
-  pub without-no : r ≡ false → (j : ℕ) → bit m j ≡ withoutBit tree masks m l j
-  without-no t j = ap (λ (b : Bool). cond b (bit m j - bit (getD masks l 0) j) (bit m j)) (sym t ∙ e)
+  pub without-no : r ≡ false → (j : ℕ) → bit (getD masks i 0) j ≡ withoutBit tree masks i l j
+  without-no t j = let m = bit (getD masks i 0) j in ap (λ (b : Bool). cond b (m - bit (getD masks l 0) j) m) (sym t ∙ e)
 
 -- ---- the set of a derivation
 
@@ -116,11 +129,18 @@ module _ (index : List ℕ) (values : List ℤ) (cell n : ℕ) where
       ∙ ap (map (λ (m : Multiplier). m .row)) e
 
 module _ {index : List ℕ} {values : List ℤ} {own cell : ℕ} where
-  pub unsplit-there : (why : Reason) → ReasonHere index values own cell why → getD index cell 0 ≡ 3 → UnsplitIsThere index own cell
+  -- the rows that an unsplitting names, two by two
+  pub unsplit-there : (why : Reason) → ReasonHere index values own cell why → getD index cell 0 ≡ 3 → NamedBelow index own (cell + 1) 2 × NamedBelow index own (cell + 3) 2
   unsplit-there asm g e = absurd (omega (arith, g .word-is))
   unsplit-there (lin ms) g e = absurd (omega (arith, g .word-is))
   unsplit-there (rnd ms) g e = absurd (omega (arith, g .word-is))
-  unsplit-there (uns u) g e = (u, g .stands)
+  unsplit-there (uns u) g e =
+      let s = g .stands in
+      let one-more : cell + 1 + 1 ≡ cell + 2 = omega arith in
+      let three-more : cell + 3 + 1 ≡ cell + 4 = omega arith in (
+        two-named index own (cell + 1) (omega (arith, s .0)) (omega (arith, s .1 .0, s .2 .0)) (rw one-more (omega (arith, s .1 .1, s .2 .1))),
+        two-named index own (cell + 3) (omega (arith, s .0)) (omega (arith, s .1 .2, s .2 .2)) (rw three-more (omega (arith, s .1 .3, s .2 .3))),
+      )
   unsplit-there sol g e = absurd (omega (arith, g .word-is))
 
   -- the rows that a combination names
@@ -141,14 +161,16 @@ module _ {index : List ℕ} {values : List ℤ} {own cell : ℕ} where
     set-asm sol g e j = absurd (omega (arith, g .word-is))
 
     pub set-uns : (why : Reason) → ReasonHere index values own cell why → getD index cell 0 ≡ 3 → (j : ℕ)
-        → max (withoutBit tree masks (getD masks (getD index (cell + 1) 0) 0) (getD index (cell + 2) 0) j) (withoutBit tree masks (getD masks (getD index (cell + 3) 0) 0) (getD index (cell + 4) 0) j)
+        → max (withoutBit tree masks (getD index (cell + 1) 0) (getD index (cell + 1 + 1) 0) j) (withoutBit tree masks (getD index (cell + 3) 0) (getD index (cell + 3 + 1) 0) j)
         ≡ reasonBit tree masks n why j
     set-uns asm g e j = absurd (omega (arith, g .word-is))
     set-uns (lin ms) g e j = absurd (omega (arith, g .word-is))
     set-uns (rnd ms) g e j = absurd (omega (arith, g .word-is))
     set-uns (uns u) g e j =
         let s = g .stands .1 in
-        ap₂ max (ap₂ (λ (i l : ℕ). withoutBit tree masks (getD masks i 0) l j) (s .0) (s .1)) (ap₂ (λ (i l : ℕ). withoutBit tree masks (getD masks i 0) l j) (s .2) (s .3))
+        let one-more : cell + 1 + 1 ≡ cell + 2 = omega arith in
+        let three-more : cell + 3 + 1 ≡ cell + 4 = omega arith in
+        ap₂ max (ap₂ (λ (i l : ℕ). withoutBit tree masks i l j) (s .0) (rw one-more (s .1))) (ap₂ (λ (i l : ℕ). withoutBit tree masks i l j) (s .2) (rw three-more (s .3)))
     set-uns sol g e j = absurd (omega (arith, g .word-is))
 
     pub set-sol : (why : Reason) → ReasonHere index values own cell why → getD index cell 0 ≡ 4 → (j : ℕ) → bit 0 j ≡ reasonBit tree masks n why j
@@ -166,6 +188,15 @@ module _ {index : List ℕ} {values : List ℤ} {own cell : ℕ} where
     set-named (uns u) g a b d j = absurd (b (g .word-is))
     set-named sol g a b d j = absurd (d (g .word-is))
 
+-- ---- counting
+
+module _ {b : Bool} {m : ℕ} (n : ℕ) where
+  pub count-yes : b ≡ true → m ≡ n + 1 → m ≡ cond b (n + 1) n
+  count-yes t e = e ∙ ap (λ (x : Bool). cond x (n + 1) n) (sym t)
+
+  pub count-no : b ≡ false → m ≡ n → m ≡ cond b (n + 1) n
+  count-no t e = e ∙ ap (λ (x : Bool). cond x (n + 1) n) (sym t)
+
 -- ---- derivation k of a certificate that the tables hold
 
 module _ {tree : Tree} {f : Frame} {index : List ℕ} {values : List ℤ} {rows : List ℕ} (g : Stands tree f index values rows) where
@@ -178,6 +209,9 @@ module _ {tree : Tree} {f : Frame} {index : List ℕ} {values : List ℤ} {rows 
   pub rows-few : f .given + f .derived ≤ 1024
   rows-few = omega (arith, g .in-range .derivations-most, given-is, derived-is)
 
+  pub two-small : {cell : ℕ} → NamedBelow index (f .given + f .derived) cell 2 → (getD index cell 0 < 1024) × (getD index (cell + 1) 0 < 1024)
+  two-small n = (omega (arith, rows-few, named-small n (omega arith)), omega (arith, rows-few, n .small 1 (omega arith)))
+
   module _ (k : ℕ) (h : k < f .derived) where
     derived-here : entryAt tree (f .given + k) ≡ derivedRow (derivationAt tree k)
     derived-here = ap (λ (n : ℕ). entryAt tree (n + k)) given-is ∙ entry-derived (g .in-range) k (omega (arith, derived-is))
@@ -188,14 +222,14 @@ module _ {tree : Tree} {f : Frame} {index : List ℕ} {values : List ℤ} {rows 
         subst (λ (i : ℕ). ReasonHere index values (f .given + k) i (derivationAt tree k .reason)) (sym e)
         (record { inside = d .word-inside; word-is = d .word-is; number = reasonValuesAt index (cellOf rows (f .given + k)) (numberOf rows (f .given + k)); stands = d .reason })
 
-    -- its set is stored, and it is counted if it is an assumption
-    pub sets-on : {n : ℕ} {masks : List ℕ} → Stand tree k n masks → (r : ℕ) → ((j : ℕ) → bit r j ≡ reasonBit tree masks n (derivationAt tree k .reason) j)
-        → Stand tree (k + 1) (cond (assumed (entryAt tree (f .given + k))) (n + 1) n) (set masks (f .given + k) r)
-    sets-on {n} {masks} now r bits =
+    -- its set is stored, and it is counted if it is an assumption, which a call answered with b
+    pub sets-on : {n : ℕ} {masks : List ℕ} (m r : ℕ) {b : Bool} → Stand tree k n masks → ((j : ℕ) → bit r j ≡ reasonBit tree masks n (derivationAt tree k .reason) j)
+        → b ≡ assumed (entryAt tree (f .given + k)) → m ≡ cond b (n + 1) n → Stand tree (k + 1) m (set masks (f .given + k) r)
+    sets-on {n} {masks} m r now bits answer count =
         let d = derivationAt tree k in
         let here : f .given + k ≡ length (tree .constraints .rows) + k = omega (arith, given-is, g .in-range .rows-counted) in
-        subst (λ (e : Entry). Stand tree (k + 1) (cond (assumed e) (n + 1) n) (set masks (f .given + k) r)) (sym derived-here)
-        (stand-next (g .in-range) now here (d .reason) r (d, derived-here, refl) bits)
+        let is : m ≡ cond (isAssumption (d .reason)) (n + 1) n = count ∙ ap (λ (t : Bool). cond t (n + 1) n) (answer ∙ ap assumed derived-here) in
+        subst (λ (l : ℕ). Stand tree (k + 1) l (set masks (f .given + k) r)) (sym is) (stand-next (g .in-range) now here (d .reason) r (d, derived-here, refl) bits)
 
   pub sets-end : {k n : ℕ} {masks : List ℕ} → Stand tree k n masks → f .derived ≤ k → (i : ℕ) → Decides (isEmpty (assumptionsOf tree i)) ((j : ℕ) → bit (getD masks i 0) j ≡ 0)
   sets-end now h i = stand-end now (omega (arith, derived-is, g .in-range .derivations-counted)) i
