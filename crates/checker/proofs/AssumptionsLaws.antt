@@ -22,24 +22,10 @@ use Rattle.sets.specs.SetsLaws.{bit-zero}
 use Rattle.sets.specs.Course.{unionBit, withoutBit, reasonBit, union-start, union-on, union-end, Stand, stand-next, stand-end}
 use Rattle.checker.specs.Tables.{listedAt, aMultiplier, multipliersAt, Listed, cellsAt, NamedBelow, pairsFrom, reasonAt, reasonValuesAt}
 use Rattle.checker.specs.Held.{cellOf, numberOf, wordOf, ReasonStands, derivationAt, Stands}
-use Rattle.checker.specs.HeldLaws.{entry-derived}
 use Rattle.checker.specs.declared.tables.Frame.{Frame}
+use Rattle.checker.proofs.DerivationsLaws.{given-is, derived-is, rows-few, derived-here, named-small, named-on, cells-next, cells-none, listed-rows}
 
 -- ---- the rows that stand in cells
-
-module _ {index : List ℕ} {bound cell left : ℕ} (g : NamedBelow index bound cell left) (h : 0 < left) where
-  pub named-small : getD index cell 0 < bound
-  named-small = subst (λ (k : ℕ). getD index k 0 < bound) (add-zero cell) (g .small 0 h)
-
-  pub named-on : NamedBelow index bound (cell + 1) (left - 1)
-  named-on =
-      record {
-        inside = omega (arith, g .inside);
-        small = λ k l. let q : cell + (k + 1) ≡ cell + 1 + k = omega arith in subst (λ (j : ℕ). getD index j 0 < bound) q (g .small (k + 1) (omega arith));
-      }
-
-pub below-more : {index : List ℕ} {own bound cell count : ℕ} → own ≤ bound → NamedBelow index own cell count → NamedBelow index bound cell count
-below-more le g = record { inside = g .inside; small = λ k h. let s = g .small k h in omega arith }
 
 -- two cells
 two-named : (index : List ℕ) (bound cell : ℕ) → cell + 1 < length index → getD index cell 0 < bound → getD index (cell + 1) 0 < bound → NamedBelow index bound cell 2
@@ -49,23 +35,6 @@ two-named index bound cell h p q = record { inside = omega arith; small = small 
     small zero l = subst (λ (i : ℕ). getD index i 0 < bound) (sym (add-zero cell)) p
     small (suc zero) l = q
     small (suc (suc k)) l = absurd (omega arith)
-
-module _ (index : List ℕ) where
-  cells-next : (cell left : ℕ) → 0 < left → cellsAt index cell left ≡ getD index cell 0 ∷ cellsAt index (cell + 1) (left - 1)
-  unfolding cellsAt
-  cells-next cell zero h = absurd (not-suc-le-zero h)
-  cells-next cell (suc left) h = rw sub-one
-
-  cells-none : (cell left : ℕ) → left ≤ 0 → cellsAt index cell left ≡ []
-  unfolding cellsAt
-  cells-none cell zero h = refl
-  cells-none cell (suc left) h = absurd (not-suc-le-zero h)
-
-  -- the rows of listed multipliers are those in the cells
-  listed-rows : (values : List ℤ) (cell n count : ℕ) → cellsAt index cell count ≡ map (λ (m : Multiplier). m .row) (listedAt aMultiplier index values cell n count)
-  unfolding cellsAt listedAt
-  listed-rows values cell n zero = refl
-  listed-rows values cell n (suc count) = ap (λ (l : List ℕ). getD index cell 0 ∷ l) (listed-rows values (cell + 1) (n + 1) count)
 
 -- ---- the union of their sets
 
@@ -125,7 +94,7 @@ module _ (index : List ℕ) (values : List ℤ) (cell n : ℕ) where
       → cellsAt index (cell + 2) (getD index (cell + 1) 0) ≡ map (λ (m : Multiplier). m .row) ms
   rows-named e =
       ap (λ (i : ℕ). cellsAt index i (getD index (cell + 1) 0)) (sym two-on)
-      ∙ listed-rows index values (cell + 1 + 1) n (getD index (cell + 1) 0)
+      ∙ listed-rows index 0 values (cell + 1 + 1) n (getD index (cell + 1) 0)
       ∙ ap (map (λ (m : Multiplier). m .row)) e
 
 module _ {index : List ℕ} {values : List ℤ} {own cell : ℕ} where
@@ -200,22 +169,10 @@ module _ {b : Bool} {m : ℕ} (n : ℕ) where
 -- ---- derivation k of a certificate that the tables hold
 
 module _ {tree : Tree} {f : Frame} {index : List ℕ} {values : List ℤ} {rows : List ℕ} (g : Stands tree f index values rows) where
-  given-is : f .given ≡ tree .constraints .count
-  given-is = ap (λ (x : Frame). x .given) (g .frame-is)
-
-  derived-is : f .derived ≡ tree .derivations .count
-  derived-is = ap (λ (x : Frame). x .derived) (g .frame-is)
-
-  pub rows-few : f .given + f .derived ≤ 1024
-  rows-few = omega (arith, g .in-range .derivations-most, given-is, derived-is)
-
   pub two-small : {cell : ℕ} → NamedBelow index (f .given + f .derived) cell 2 → (getD index cell 0 < 1024) × (getD index (cell + 1) 0 < 1024)
-  two-small n = (omega (arith, rows-few, named-small n (omega arith)), omega (arith, rows-few, n .small 1 (omega arith)))
+  two-small n = (omega (arith, rows-few g, named-small n (omega arith)), omega (arith, rows-few g, n .small 1 (omega arith)))
 
   module _ (k : ℕ) (h : k < f .derived) where
-    derived-here : entryAt tree (f .given + k) ≡ derivedRow (derivationAt tree k)
-    derived-here = ap (λ (n : ℕ). entryAt tree (n + k)) given-is ∙ entry-derived (g .in-range) k (omega (arith, derived-is))
-
     pub reason-here : {cell : ℕ} → cell ≡ reasonAt index (cellOf rows (f .given + k)) → ReasonHere index values (f .given + k) cell (derivationAt tree k .reason)
     reason-here e =
         let d = g .derivations-stand k h in
@@ -227,9 +184,9 @@ module _ {tree : Tree} {f : Frame} {index : List ℕ} {values : List ℤ} {rows 
         → b ≡ assumed (entryAt tree (f .given + k)) → m ≡ cond b (n + 1) n → Stand tree (k + 1) m (set masks (f .given + k) r)
     sets-on {n} {masks} m r now bits answer count =
         let d = derivationAt tree k in
-        let here : f .given + k ≡ length (tree .constraints .rows) + k = omega (arith, given-is, g .in-range .rows-counted) in
-        let is : m ≡ cond (isAssumption (d .reason)) (n + 1) n = count ∙ ap (λ (t : Bool). cond t (n + 1) n) (answer ∙ ap assumed derived-here) in
-        subst (λ (l : ℕ). Stand tree (k + 1) l (set masks (f .given + k) r)) (sym is) (stand-next (g .in-range) now here (d .reason) r (d, derived-here, refl) bits)
+        let here : f .given + k ≡ length (tree .constraints .rows) + k = omega (arith, given-is g, g .in-range .rows-counted) in
+        let is : m ≡ cond (isAssumption (d .reason)) (n + 1) n = count ∙ ap (λ (t : Bool). cond t (n + 1) n) (answer ∙ ap assumed (derived-here g k h)) in
+        subst (λ (l : ℕ). Stand tree (k + 1) l (set masks (f .given + k) r)) (sym is) (stand-next (g .in-range) now here (d .reason) r (d, derived-here g k h, refl) bits)
 
   pub sets-end : {k n : ℕ} {masks : List ℕ} → Stand tree k n masks → f .derived ≤ k → (i : ℕ) → Decides (isEmpty (assumptionsOf tree i)) ((j : ℕ) → bit (getD masks i 0) j ≡ 0)
-  sets-end now h i = stand-end now (omega (arith, derived-is, g .in-range .derivations-counted)) i
+  sets-end now h i = stand-end now (omega (arith, derived-is g, g .in-range .derivations-counted)) i

@@ -211,12 +211,12 @@ module _ {index : List ℕ} {bound cell left : ℕ} (g : NamedBelow index bound 
       }
 
 module _ (index : List ℕ) where
-  cells-next : (cell left : ℕ) → 0 < left → cellsAt index cell left ≡ getD index cell 0 ∷ cellsAt index (cell + 1) (left - 1)
+  pub cells-next : (cell left : ℕ) → 0 < left → cellsAt index cell left ≡ getD index cell 0 ∷ cellsAt index (cell + 1) (left - 1)
   unfolding cellsAt
   cells-next cell zero h = absurd (not-suc-le-zero h)
   cells-next cell (suc left) h = rw sub-one
 
-  cells-none : (cell left : ℕ) → left ≤ 0 → cellsAt index cell left ≡ []
+  pub cells-none : (cell left : ℕ) → left ≤ 0 → cellsAt index cell left ≡ []
   unfolding cellsAt
   cells-none cell zero h = refl
   cells-none cell (suc left) h = absurd (not-suc-le-zero h)
@@ -312,7 +312,7 @@ module _ (index : List ℕ) (own : ℕ) where
 
   module _ (values : List ℤ) where
     -- the rows of listed multipliers are those in the cells
-    listed-rows : (cell n count : ℕ) → cellsAt index cell count ≡ map (λ (m : Multiplier). m .row) (listedAt aMultiplier index values cell n count)
+    pub listed-rows : (cell n count : ℕ) → cellsAt index cell count ≡ map (λ (m : Multiplier). m .row) (listedAt aMultiplier index values cell n count)
     unfolding cellsAt listedAt
     listed-rows cell n zero = refl
     listed-rows cell n (suc count) = ap (λ (l : List ℕ). getD index cell 0 ∷ l) (listed-rows (cell + 1) (n + 1) count)

@@ -4,7 +4,8 @@ use Prim.Native.Nat.{_+_, _<_, max}
 use lib.ListN.{length, getD}
 use Rattle.checker.specs.Tables.{NamedBelow}
 use Rattle.checker.specs.Held.{derivationAt}
-use Rattle.checker.proofs.AssumptionsLaws.{ReasonHere, reason-here, rows-few, below-more, unsplit-there, names-there, set-asm, set-uns, set-sol, set-named}
+use Rattle.checker.proofs.AssumptionsLaws.{ReasonHere, reason-here, unsplit-there, names-there, set-asm, set-uns, set-sol, set-named}
+use Rattle.checker.proofs.DerivationsLaws.{rows-few, below-more}
 use borrow.Author.Needs.{needs}
 use native.Mathlib.Omega.{arith}
 use Rattle.checker.proofs.assumptions.set_of.Statement.{statement}

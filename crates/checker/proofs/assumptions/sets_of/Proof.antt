@@ -7,7 +7,8 @@ use lib.IntN.{ℤ}
 use Rattle.grammar.specs.Tree.{Tree}
 use Rattle.sets.specs.Course.{Stand, stand-start}
 use Rattle.checker.specs.Held.{Stands}
-use Rattle.checker.proofs.AssumptionsLaws.{rows-few, count-yes, count-no, sets-on, sets-end}
+use Rattle.checker.proofs.AssumptionsLaws.{count-yes, count-no, sets-on, sets-end}
+use Rattle.checker.proofs.DerivationsLaws.{rows-few}
 use native.Mathlib.Omega.{arith}
 use Rattle.checker.proofs.assumptions.sets_of.Statement.{statement}
 use Rattle.checker.proofs.assumptions.sets_of.Tie as tie

@@ -3,7 +3,8 @@ use Prim.Native.Nat.{_<_}
 use lib.ListN.{getD}
 use Rattle.sets.specs.Course.{unionBit}
 use Rattle.checker.specs.Tables.{cellsAt}
-use Rattle.checker.proofs.AssumptionsLaws.{Uniting, uniting-start, uniting-on, uniting-end, named-small}
+use Rattle.checker.proofs.AssumptionsLaws.{Uniting, uniting-start, uniting-on, uniting-end}
+use Rattle.checker.proofs.DerivationsLaws.{named-small}
 use borrow.Author.Needs.{needs}
 use native.Mathlib.Omega.{arith}
 use Rattle.checker.proofs.assumptions.union_of.Statement.{statement}
