@@ -20,6 +20,7 @@ use Rattle.checker.specs.Held.{EndStands, EndIsThere, ClaimStands, Claim
 use Rattle.checker.specs.Answers.{boundSays, endIn, against}
 use Rattle.checker.specs.declared.claims.Bound.{Bound}
 use Rattle.checker.specs.declared.tables.Frame.{Frame}
+use Rattle.checker.proofs.DerivationsLaws.{variables-are}
 
 -- ---- one end
 
@@ -182,17 +183,8 @@ module _ {tree : Tree} {f : Frame} {index : List ℕ} {values : List ℤ} {rows 
   pub maximize-is : f .maximize ≡ isMaximize (tree .objective .direction)
   maximize-is = ap (λ (g : Frame). g .maximize) (h .frame-is)
 
-  variables-are : f .variables ≡ variables tree
-  variables-are = ap (λ (g : Frame). g .variables) (h .frame-is)
-
-  pub rows-few : f .given + f .derived ≤ 1024
-  rows-few =
-      let m = ap (λ (g : Frame). g .given) (h .frame-is) in
-      let d = ap (λ (g : Frame). g .derived) (h .frame-is) in
-      omega (arith, h .in-range .derivations-most)
-
   pub absurd-is : {t : Bool} {c d : Constraint} → t ≡ isAbsurd (f .variables) c → c ≡ d → t ≡ isAbsurd (variables tree) d
-  absurd-is e p = e ∙ ap₂ isAbsurd variables-are p
+  absurd-is e p = e ∙ ap₂ isAbsurd (variables-are h) p
 
   pub dominates-is : {t : Bool} {a b c d : Constraint} → t ≡ dominates (f .variables) a b → a ≡ c → b ≡ d → t ≡ dominates (variables tree) c d
-  dominates-is {a = a} {b = b} e p q = e ∙ ap (λ (n : ℕ). dominates n a b) variables-are ∙ ap₂ (dominates (variables tree)) p q
+  dominates-is {a = a} {b = b} e p q = e ∙ ap (λ (n : ℕ). dominates n a b) (variables-are h) ∙ ap₂ (dominates (variables tree)) p q

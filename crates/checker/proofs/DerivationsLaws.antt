@@ -2,13 +2,15 @@
 -- finds them.
 -- Assumes nothing.
 use mathlib.Core.Path.{_≡_, refl, sym, _∙_, ap, subst}
-use mathlib.Core.Bool.{Bool, true, false, not, cond, _&&_}
+use mathlib.Core.Bool.{Bool, true, false, not, cond, _&&_, _||_}
 use mathlib.Core.List.{List, [], _∷_, map}
+use mathlib.Core.Logic.{_⊎_, inl, inr, ⊎-elim}
 use mathlib.Core.Option.{none, some}
 use Prim.Native.Nat.{ℕ, zero, suc, _+_, _*_, _-_, _≤_, _<_}
 use native.Mathlib.Nat.{add-zero, not-suc-le-zero}
 use native.Mathlib.Numerals.{sub-one}
 use native.Mathlib.Omega.{arith}
+use borrow.Author.Tests.{eqb-true, eqb-false}
 use lib.Dec.{eqb, ltb}
 use lib.IntN.{ℤ}
 use lib.ListN.{length, getD, drop, drop-of-length-le}
@@ -22,6 +24,7 @@ use Rattle.grammar.specs.Tree.{Direction, minimize, maximize, atMost, atLeast, 
 use Rattle.grammar.specs.Tree as grammar
 use Rattle.grammar.specs.Refusals.{refusalNumber}
 use Rattle.grammar.specs.declared.Refusal.{Refusal}
+use Rattle.rules.specs.Tests.{not-true}
 use Rattle.rules.specs.Result.{Result, done, refused, Verdict, fine, bind, _andThen_, require, each, eachFrom}
 use Rattle.rules.specs.Rows.{variables, Constraint, constraintOf, objectiveWith, givenRow, derivedRow, rowOf, noRow, entryAt, rowAt, valueIn}
 use Rattle.rules.specs.Domination.{dominates}
@@ -73,11 +76,6 @@ module _ {tree : Tree} {f : Frame} {index : List ℕ} {values : List ℤ} {rows 
   -- what finding a row's reason asks for
   pub row-found : (r : ℕ) → r < f .given + f .derived → (4 * r + 4 ≤ length rows) × (cellOf rows r + 1 < length index)
   row-found r h = (g .rows-stand r h .inside, g .rows-stand r h .cell-inside)
-
-  -- what finding its multipliers asks for
-  pub multipliers-found : (r : ℕ) → r < f .given + f .derived → reasonAt index (cellOf rows r) + 1 < length index
-      → (4 * r + 4 ≤ length rows) × (cellOf rows r + 1 < length index) × (reasonAt index (cellOf rows r) + 1 < length index)
-  multipliers-found r h l = (row-found r h .0, row-found r h .1, l)
 
   pub rows-below : (own : ℕ) → own < f .given + f .derived → RowsStand tree index values rows (f .objective) own
   rows-below own h = λ r l. g .rows-stand r (omega arith)
@@ -327,6 +325,22 @@ module _ (index : List ℕ) (own : ℕ) where
           are = listed-rows (p .cell) (p .number) (p .count) ∙ ap (map (λ (m : Multiplier). m .row)) h ∙ sym e;
         }
 
+-- ---- a number that is one of two, as the code tests it
+
+either : (w a b : ℕ) → eqb w a || eqb w b ≡ true → (w ≡ a) ⊎ (w ≡ b)
+either w a b t = go (eqb w a) refl t
+  where
+    go : (x : Bool) → eqb w a ≡ x → x || eqb w b ≡ true → (w ≡ a) ⊎ (w ≡ b)
+    go true e t = inl (eqb-true w a e)
+    go false e t = inr (eqb-true w b t)
+
+neither : (w a b : ℕ) → eqb w a || eqb w b ≡ false → (w ≡ a → ⊥) × (w ≡ b → ⊥)
+neither w a b t = go (eqb w a) refl t
+  where
+    go : (x : Bool) → eqb w a ≡ x → x || eqb w b ≡ false → (w ≡ a → ⊥) × (w ≡ b → ⊥)
+    go true e t = not-true (sym t)
+    go false e t = (eqb-false w a e, eqb-false w b t)
+
 -- ---- a reason in the tables, by its word, which a call found in a cell
 
 -- multipliers, of `lin` or of `rnd`
@@ -377,27 +391,25 @@ module _ {index : List ℕ} {values : List ℤ} {rows : List ℕ} {own cell : �
   pub uns-named : getD index cell 0 ≡ 3 → NamedIn index own (cell + 1) 4 (d .reason)
   uns-named w = let u = uns-here w in unsplit-named index own cell (d .reason) (u .unsplit) (u .reason-is) (u .stands)
 
-  pairs-named : (make : MultiplierList → Reason) → ((ms : MultiplierList) → named (make ms) ≡ map (λ (m : Multiplier). m .row) (ms .multipliers))
+  made-named : (make : MultiplierList → Reason) → ((ms : MultiplierList) → named (make ms) ≡ map (λ (m : Multiplier). m .row) (ms .multipliers))
       → ListedHere make index values rows own (d .reason) → NamedIn index own (cell + 2) (getD index (cell + 1) 0) (d .reason)
-  pairs-named make names l =
+  made-named make names l =
       let q : reasonAt index (cellOf rows own) + 1 + 1 ≡ cell + 2 = omega arith in
       subst (λ (k : ℕ). NamedIn index own k (getD index (cell + 1) 0) (d .reason)) q
       (subst (λ (k : ℕ). NamedIn index own (reasonAt index (cellOf rows own) + 1 + 1) (getD index (k + 1) 0) (d .reason)) (sym e)
       (listed-named index own values (multipliersOf index rows own) (d .reason) (l .list .multipliers) (ap named (l .reason-is) ∙ names (l .list)) (l .listed) (l .are)))
 
-  pub lin-named : getD index cell 0 ≡ 1 → NamedIn index own (cell + 2) (getD index (cell + 1) 0) (d .reason)
-  lin-named w = pairs-named lin (λ ms. refl) (lin-here w)
+  pub pairs-named : eqb (getD index cell 0) 1 || eqb (getD index cell 0) 2 ≡ true → NamedIn index own (cell + 2) (getD index (cell + 1) 0) (d .reason)
+  pairs-named t =
+      ⊎-elim (λ w. made-named lin (λ ms. refl) (lin-here w)) (λ w. made-named rnd (λ ms. refl) (rnd-here w)) (either (getD index cell 0) 1 2 t)
 
-  pub rnd-named : getD index cell 0 ≡ 2 → NamedIn index own (cell + 2) (getD index (cell + 1) 0) (d .reason)
-  rnd-named w = pairs-named rnd (λ ms. refl) (rnd-here w)
-
-  pub none-named : (getD index cell 0 ≡ 3 → ⊥) → (getD index cell 0 ≡ 1 → ⊥) → (getD index cell 0 ≡ 2 → ⊥) → [] ≡ named (d .reason)
-  none-named a b c = go (d .reason) word-here
+  pub none-named : (getD index cell 0 ≡ 3 → ⊥) → eqb (getD index cell 0) 1 || eqb (getD index cell 0) 2 ≡ false → [] ≡ named (d .reason)
+  none-named a t = go (d .reason) word-here
     where
       go : (r : Reason) → getD index cell 0 ≡ wordOf r → [] ≡ named r
       go asm w = refl
-      go (lin ms) w = absurd (b w)
-      go (rnd ms) w = absurd (c w)
+      go (lin ms) w = absurd (neither (getD index cell 0) 1 2 t .0 w)
+      go (rnd ms) w = absurd (neither (getD index cell 0) 1 2 t .1 w)
       go (uns u) w = absurd (a w)
       go sol w = refl
 

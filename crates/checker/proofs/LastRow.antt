@@ -10,12 +10,12 @@ use native.Mathlib.Omega.{arith}
 use lib.IntN.{ℤ}
 use lib.ListN.{length, getD}
 use Rattle.grammar.specs.Tree.{Row, Derivation, Tree}
-use Rattle.rules.specs.Rows.{Constraint, constraintOf, rowOf, rowAt}
+use Rattle.rules.specs.Rows.{Constraint, constraintOf, rowAt}
 use Rattle.rules.specs.Assumptions.{assumptionsOf, isEmpty}
 use Rattle.rules.specs.Claims.{lastFrom, lastRow, lastPasses, lastPlace}
 use Rattle.checker.specs.Held.{RowStands, RowIsThere, noDerivation, derivationAt, Stands}
-use Rattle.checker.specs.HeldLaws.{entry-derived}
 use Rattle.checker.specs.declared.tables.Frame.{Frame}
+use Rattle.checker.proofs.DerivationsLaws.{row-derived}
 
 last-from : (k : ℕ) (d : Derivation) (ds : List Derivation) → lastFrom k (d ∷ ds) ≡ some (k + length ds, getD (d ∷ ds) (length ds) noDerivation)
 last-from k d [] = ap (λ (n : ℕ). some (n, d)) (sym (add-zero k))
@@ -52,16 +52,10 @@ module _ {tree : Tree} {f : Frame} {index : List ℕ} {values : List ℤ} {rows 
       ∙ ap (λ (n : ℕ). some (n + f .derived - 1, derivationAt tree (f .derived - 1))) given-is
 
   -- it is the row with that index
-  pub row-derived : (k : ℕ) → k < f .derived → rowAt tree (f .given + k) ≡ derivationAt tree k .row
-  row-derived k le =
-      let m = sym (ap (λ (g : Frame). g .given) (h .frame-is)) in
-      let d = ap (λ (g : Frame). g .derived) (h .frame-is) in
-      ap (λ (n : ℕ). rowAt tree (n + k)) (sym m) ∙ ap rowOf (entry-derived (h .in-range) k (omega arith))
-
   pub last-is-row : 0 < f .derived → rowAt tree (f .given + f .derived - 1) ≡ derivationAt tree (f .derived - 1) .row
   last-is-row le =
       let e : f .given + f .derived - 1 ≡ f .given + (f .derived - 1) = omega arith in
-      ap (rowAt tree) e ∙ row-derived (f .derived - 1) (omega arith)
+      ap (rowAt tree) e ∙ row-derived h (f .derived - 1) (omega arith)
 
   pub last-passes : (test : Constraint → Bool) → 0 < f .derived
       → lastPasses tree test (lastRow tree) ≡ test (constraintOf tree (rowAt tree (f .given + f .derived - 1))) && isEmpty (assumptionsOf tree (f .given + f .derived - 1))

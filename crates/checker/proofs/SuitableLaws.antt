@@ -18,47 +18,11 @@ use Rattle.rules.specs.Result.{Result, done, refused, bind, _andThen_, require}
 use Rattle.rules.specs.Values.{sameZ, isZero, isPositive, isNegative}
 use Rattle.rules.specs.Rows.{Constraint, rowAt}
 use Rattle.rules.specs.Combinations.{Combination, signed, isSuitable, senseOf, combine, suitableCombination}
-use Rattle.constraint.specs.Signs.{signedNumber, senseBy}
+use Rattle.constraint.specs.Signs.{signedNumber, senseBy, noneNegative, nonePositive, suitable-by, sense-by}
 use Rattle.checker.specs.Tables.{fractionAt, listedAt, aMultiplier, Listed}
 use Rattle.checker.specs.Held.{RowsStand}
 use Rattle.checker.specs.declared.tables.Pairs.{Pairs}
 use Rattle.checker.proofs.TablesLaws.{listed-on, listed-next, listed-none}
-
--- ---- two tests of the multipliers
-
-module _ (tree : Tree) (ms : List Multiplier) where
-  abbrev pub noneNegative : Bool
-  noneNegative = allOf (λ m. not (isNegative (signed tree m))) ms
-
-  abbrev pub nonePositive : Bool
-  nonePositive = allOf (λ m. not (isPositive (signed tree m))) ms
-
-  pub suitable-by : noneNegative || nonePositive ≡ isSuitable tree ms
-  unfolding isSuitable
-  suitable-by = refl
-
--- neither negative nor positive: zero
-neither : (z : ℤ) → not (ltZ z (pos 0)) && not (ltZ (pos 0) z) ≡ sameZ z (pos 0)
-neither (pos zero) = refl
-neither (pos (suc n)) = rw (le-ltb (suc n) 0 (omega arith), lt-ltb 0 (suc n) (omega arith), ne-eqb (suc n) 0 (λ e. omega arith))
-neither (negsuc n) = refl
-
--- two tests of each, made one
-all-both : {A : Type 0} (f g h : A → Bool) → ((x : A) → f x && g x ≡ h x) → (xs : List A) → allOf f xs && allOf g xs ≡ allOf h xs
-all-both f g h e [] = refl
-all-both f g h e (x ∷ xs) = exchange (f x) (g x) (allOf f xs) (allOf g xs) ∙ ap₂ _&&_ (e x) (all-both f g h e xs)
-  where
-    exchange : (a b c d : Bool) → (a && c) && (b && d) ≡ (a && b) && (c && d)
-    exchange true true c d = refl
-    exchange true false true d = refl
-    exchange true false false d = refl
-    exchange false b c d = refl
-
-pub sense-by : (tree : Tree) (ms : List Multiplier) → senseBy (noneNegative tree ms) (nonePositive tree ms) ≡ senseOf tree ms
-unfolding senseOf
-sense-by tree ms =
-    ap (λ (t : Bool). cond t equal (cond (noneNegative tree ms) atLeast atMost))
-    (all-both _ _ (λ m. isZero (signed tree m)) (λ m. neither (signedNumber (rowAt tree (m .row) .sense) (m .factor))) ms)
 
 -- ---- a test of listed multipliers, one by one
 

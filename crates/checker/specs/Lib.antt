@@ -5,3 +5,4 @@ pub mod HeldPairs
 pub mod HeldLaws
 pub mod Answers
 pub mod Promise
+pub mod Shown

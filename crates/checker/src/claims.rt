@@ -106,7 +106,11 @@ fn asked_at(index: &[u16], values: &[i32], rows: &[u16], frame: Frame) -> Asked
 fn sense_asked(maximize: bool) -> Sense
     ensures { λ s. ⌜ ((d : Direction) → maximize ≡ isMaximize d → senseIs s ≡ against d) ⌝ }
 {
-    if maximize { Sense::AtMost } else { Sense::AtLeast }
+    if maximize {
+        Sense::AtMost
+    } else {
+        Sense::AtLeast
+    }
 }
 
 // Whether row r has no assumptions.

@@ -10,16 +10,18 @@ ghost use Rattle.grammar.specs.Tree.{Unsplit, Tree};
 ghost use Rattle.rules.specs.Result.{require, each, eachFrom};
 ghost use Rattle.rules.specs.Rows.{Constraint as ConstraintOf, objectiveWith, entryAt, rowAt};
 ghost use Rattle.rules.specs.Solutions.{bestOf};
+ghost use Rattle.rules.specs.Combinations.{suitableCombination};
 ghost use Rattle.rules.specs.Derivations.{isSpent, named, checkDominates, checkLin, checkRnd, checkUns, checkSol, checkReason, checkDerivation};
 ghost use Rattle.rules.specs.Splits.{assumed, isProperSplit};
 ghost use Rattle.constraint.specs.Meaning.{senseIs, meant, VariablesAre};
 ghost use Rattle.checker.specs.Tables.{cellsAt, NamedBelow, multipliersAt, Listed, reasonAt};
 ghost use Rattle.checker.specs.Held.{cellOf, multipliersOf, UnsplitStands, UnsplitIsThere, derivationAt, Stands, Standing, Found};
-ghost use Rattle.checker.specs.Answers.{checkSays, verdictSays, bestSays};
+ghost use Rattle.checker.specs.Answers.{checkSays, verdictSays, suitableSays, bestSays};
 use crate::Check;
 use crate::Verdict;
 use crate::objectives::Best;
 use crate::suitable;
+use crate::suitable::Suitable;
 use crate::tables;
 use crate::tables::Frame;
 use constraint::Constraint;
@@ -81,11 +83,7 @@ fn check_named(index: &[u16], rows: &[u16], frame: Frame, k: usize) -> Check
     if word == 3 {
         return check_spent(index, rows, frame, own, cell + 1, 4);
     }
-    if word == 1 {
-        let count = index[cell + 1] as usize;
-        return check_spent(index, rows, frame, own, cell + 2, count);
-    }
-    if word == 2 {
+    if (word == 1) | (word == 2) {
         let count = index[cell + 1] as usize;
         return check_spent(index, rows, frame, own, cell + 2, count);
     }
@@ -115,14 +113,22 @@ fn check_dominates(
     }
 }
 
+// The suitable combination of the multipliers of the row `own`: 13, then 12.
+fn combination_of(index: &[u16], values: &[i32], rows: &[u16], frame: Frame, own: usize) -> Suitable
+    requires { ⌜ Standing frame (now index) (now values) (now rows) × (own < frame .given + frame .derived) × (reasonAt (now index) (cellOf (now rows) own) + 1 < length (now index)) × Listed (now index) (now values) own (multipliersOf (now index) (now rows) own) ⌝ }
+    ensures { λ s. ⌜ ((tree : Tree) → Stands tree frame (now (index .entry)) (now (values .entry)) (now (rows .entry)) → (place : ℕ) → suitableSays place s ≡ suitableCombination tree place (multipliersAt (now (index .entry)) (now (values .entry)) (multipliersOf (now (index .entry)) (now (rows .entry)) own))) ⌝ }
+{
+    let objective = frame.objective;
+    let multipliers = tables::multipliers_at(index, rows, own);
+    suitable::suitable_of(index, values, rows, objective, multipliers, own)
+}
+
 // **lin**: 13, 12, 15.
 fn check_lin(index: &[u16], values: &[i32], rows: &[u16], frame: Frame, own: usize) -> Check
     requires { ⌜ Standing frame (now index) (now values) (now rows) × (own < frame .given + frame .derived) × (reasonAt (now index) (cellOf (now rows) own) + 1 < length (now index)) × Listed (now index) (now values) own (multipliersOf (now index) (now rows) own) ⌝ }
     ensures { λ c. ⌜ ((tree : Tree) → Stands tree frame (now (index .entry)) (now (values .entry)) (now (rows .entry)) → checkSays (rowAt tree own .name .place) c ≡ checkLin tree (rowAt tree own) (multipliersAt (now (index .entry)) (now (values .entry)) (multipliersOf (now (index .entry)) (now (rows .entry)) own))) ⌝ }
 {
-    let objective = frame.objective;
-    let multipliers = tables::multipliers_at(index, rows, own);
-    let made = suitable::suitable_of(index, values, rows, objective, multipliers, own);
+    let made = combination_of(index, values, rows, frame, own);
     let check = made.check;
     let Check::Fine = check else {
         return check;
@@ -143,9 +149,7 @@ fn check_rnd(
     requires { ⌜ Standing frame (now index) (now values) (now rows) × (own < frame .given + frame .derived) × (reasonAt (now index) (cellOf (now rows) own) + 1 < length (now index)) × Listed (now index) (now values) own (multipliersOf (now index) (now rows) own) ⌝ }
     ensures { λ c. ⌜ ((tree : Tree) → Stands tree frame (now (index .entry)) (now (values .entry)) (now (rows .entry)) → VariablesAre tree (frame .variables) integers → checkSays (rowAt tree own .name .place) c ≡ checkRnd tree (rowAt tree own) (multipliersAt (now (index .entry)) (now (values .entry)) (multipliersOf (now (index .entry)) (now (rows .entry)) own))) ⌝ }
 {
-    let objective = frame.objective;
-    let multipliers = tables::multipliers_at(index, rows, own);
-    let made = suitable::suitable_of(index, values, rows, objective, multipliers, own);
+    let made = combination_of(index, values, rows, frame, own);
     let check = made.check;
     let Check::Fine = check else {
         return check;

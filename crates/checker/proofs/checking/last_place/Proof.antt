@@ -1,8 +1,8 @@
 use borrow.Author.Needs.{needs}
+use Rattle.checker.proofs.DerivationsLaws.{rows-few}
 use Prim.Native.Nat.{_+_, _*_, _-_}
 use mathlib.Core.Path.{sym, ap, _∙_}
 use Rattle.rules.specs.Claims.{lastPlace}
-use Rattle.checker.proofs.ClaimsLaws.{rows-few}
 use Rattle.checker.proofs.LastRow.{no-last, last-stands, place-of-last}
 use native.Mathlib.Omega.{arith}
 use Rattle.checker.proofs.checking.last_place.Statement.{statement}

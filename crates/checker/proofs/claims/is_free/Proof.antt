@@ -1,5 +1,6 @@
 use borrow.Author.Needs.{needs}
-use Rattle.checker.proofs.ClaimsLaws.{same-test, rows-few}
+use Rattle.checker.proofs.DerivationsLaws.{rows-few}
+use Rattle.checker.proofs.ClaimsLaws.{same-test}
 use native.Mathlib.Omega.{arith}
 use Rattle.checker.proofs.claims.is_free.Statement.{statement}
 use Rattle.checker.proofs.claims.is_free.Tie as tie

@@ -1,4 +1,5 @@
 use borrow.Author.Needs.{needs}
+use Rattle.checker.proofs.DerivationsLaws.{rows-few}
 use native.Mathlib.Omega.{arith}
 use mathlib.Core.Path.{sym, ap, _∙_}
 use mathlib.Core.Bool.{Bool}
@@ -8,7 +9,7 @@ use Rattle.rules.specs.Rows.{variables, Constraint, objectiveWith}
 use Rattle.rules.specs.Domination.{dominates}
 use Rattle.rules.specs.Claims.{lastPasses}
 use Rattle.checker.specs.Answers.{against}
-use Rattle.checker.proofs.ClaimsLaws.{maximize-is, rows-few, both-pass, first-fails, dominates-is}
+use Rattle.checker.proofs.ClaimsLaws.{maximize-is, both-pass, first-fails, dominates-is}
 use Rattle.checker.proofs.LastRow.{no-last, last-there, last-stands, last-passes}
 use Rattle.checker.proofs.claims.last_dominates.Statement.{statement}
 use Rattle.checker.proofs.claims.last_dominates.Tie as tie

@@ -1,10 +1,11 @@
 use borrow.Author.Needs.{needs}
+use Rattle.checker.proofs.DerivationsLaws.{rows-few}
 use native.Mathlib.Omega.{arith}
 use mathlib.Core.Path.{sym, ap, _∙_}
 use Rattle.rules.specs.Rows.{variables}
 use Rattle.rules.specs.Domination.{isAbsurd}
 use Rattle.rules.specs.Claims.{lastPasses}
-use Rattle.checker.proofs.ClaimsLaws.{rows-few, both-pass, first-fails, absurd-is}
+use Rattle.checker.proofs.ClaimsLaws.{both-pass, first-fails, absurd-is}
 use Rattle.checker.proofs.LastRow.{no-last, last-there, last-stands, last-passes}
 use Rattle.checker.proofs.claims.last_is_absurd.Statement.{statement}
 use Rattle.checker.proofs.claims.last_is_absurd.Tie as tie
