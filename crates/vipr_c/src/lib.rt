@@ -1,9 +1,10 @@
-// Read one value, Read a certificate and Show a token for C: what is returned is 0 or 01's number of the refusal, results go
-// through pointers, and the tables are the caller's. include/vipr.h declares the functions.
+// Read one value, Read a certificate, Verify a certificate and Show a token for C: what is returned is 0 or 01's number of the
+// refusal, results go through pointers, and the tables are the caller's. include/vipr.h declares the functions.
 ghost use Rattle.fraction_c.specs.Stored.{pair};
 ghost use Rattle.vipr_c.specs.Values.{ValueReturned};
 ghost use Rattle.vipr_c.specs.Shown.{TokenMeasured};
-ghost use Rattle.vipr_c.specs.Certificates.{CertificateReturned};
+ghost use Rattle.vipr_c.specs.Certificates.{CertificateReturned, VerificationReturned};
+use checker::Verification;
 use reader::Reading;
 use value::ValueAnswer;
 
@@ -52,6 +53,29 @@ pub extern "C" fn vipr_read_certificate(
             0
         }
         Reading::Refused(reason, at) => {
+            *line = at as u32;
+            grammar::number(reason)
+        }
+    }
+}
+
+// Verify a certificate: 0 and line 0; or the reason and the line. The tables are left as reading leaves them.
+#[no_mangle]
+pub extern "C" fn vipr_verify(
+    text: &[u8],
+    index: &mut [u16],
+    values: &mut [i32],
+    rows: &mut [u16],
+    line: &mut u32,
+) -> u8
+    ensures { λ r. ⌜ VerificationReturned (now (text .entry)) (now (index .entry)) (now (values .entry)) (now (rows .entry)) (now (index .exit)) (now (values .exit)) (now (rows .exit)) r (now (line .exit)) ⌝ }
+{
+    match checker::verify(text, index, values, rows) {
+        Verification::Verified => {
+            *line = 0;
+            0
+        }
+        Verification::Refused(reason, at) => {
             *line = at as u32;
             grammar::number(reason)
         }
