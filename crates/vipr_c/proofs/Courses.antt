@@ -6,6 +6,7 @@ use mathlib.Core.Bool.{Bool, true, false, cond, _&&_}
 use mathlib.Core.List.{List}
 use Prim.Native.Nat.{ℕ, _≤_}
 use native.Mathlib.Omega.{arith}
+use mathlib.Core.Logic.{_↔_}
 use lib.Dec.{leb}
 use lib.IntN.{ℤ}
 use lib.ListN.{length}
@@ -14,10 +15,13 @@ use Rattle.text.specs.Bytes.{Bytes}
 use Rattle.text.specs.BytesLaws.{both}
 use Rattle.text.specs.Lines.{lineOf}
 use Rattle.grammar.specs.Tables.{indexCells, valueCells, rowCells}
-use Rattle.grammar.specs.Texts.{readOf}
+use Rattle.grammar.specs.Texts.{ReadText, readOf}
 use Rattle.reader.specs.Promise.{Course, not-begun, begun, hasCells, mostBytes, isShort, courseOf, Begun}
 use Rattle.vipr_c.specs.Certificates.{Reply, reply}
 use Rattle.vipr_c.proofs.Lines.{lines-few}
+
+abbrev status : Reply → ℕ
+status r = r .status
 
 -- a text that is read has 32,769 lines at most
 pub line-bound : (text : Bytes) (place : ℕ) → length text ≤ 32768 → lineOf text place ≤ 32769
@@ -46,14 +50,19 @@ module _ (text : Bytes) (index : List ℕ) (values : List ℤ) (rows : List ℕ)
       go true false p q = two
       go false c p q = one
 
-  module _ (f : Course → Reply) (stops : (n : ℕ) → f (not-begun n) ≡ reply n 0) where
-    pub zero-begun : {returned line : ℕ} → reply returned line ≡ f course → returned ≡ 0 → Begun text index values rows
-    zero-begun q z =
-        by-course (λ c. f c .status ≡ 0 → Begun text index values rows) (λ e. absurd (omega (arith, ap status (stops 1)))) (λ e. absurd (omega (arith, ap status (stops 2)))) (λ b e. b)
-        (sym (ap status q) ∙ z)
-      where
-        status : Reply → ℕ
-        status r = r .status
+  -- an answer r, replied to by `replied`, which goes by the course
+  module _ {R : Type 0} (replied : R → Reply) (f : Course → Reply) (stops : (n : ℕ) → f (not-begun n) ≡ reply n 0) (r : R) (answer : replied r ≡ f course) where
+    pub line-small : ((read : ReadText) → length text ≤ mostBytes → f (begun read) .line ≤ 32769) → {a : R} → r ≡ a → replied a .line ≤ 32769
+    line-small lines e = rw (sym (ap replied e) ∙ answer) (by-course (λ c. f c .line ≤ 32769) (rw (stops 1) (omega arith)) (rw (stops 2) (omega arith)) (λ b. lines (readOf text) (b .short)))
 
-    pub line-small : (length text ≤ mostBytes → f (begun (readOf text)) .line ≤ 32769) → f course .line ≤ 32769
-    line-small h = by-course (λ c. f c .line ≤ 32769) (omega (arith, ap (λ (r : Reply). r .line) (stops 1))) (omega (arith, ap (λ (r : Reply). r .line) (stops 2))) (λ b. h (b .short))
+    zero-begun : replied r .status ≡ 0 → Begun text index values rows
+    zero-begun z =
+        by-course (λ c. f c .status ≡ 0 → Begun text index values rows) (λ e. absurd (omega (arith, ap status (stops 1)))) (λ e. absurd (omega (arith, ap status (stops 2)))) (λ b e. b)
+        (sym (ap status answer) ∙ z)
+
+    -- 0 exactly where it went well: then reading was begun, and once begun it goes well exactly where it should
+    pub returned-exactly : {returned line : ℕ} {Well Should : Type 0} → reply returned line ≡ replied r → (replied r .status ≡ 0) ↔ Well → (Begun text index values rows → Well ↔ Should)
+        → (returned ≡ 0) ↔ (Begun text index values rows × Should)
+    returned-exactly q w s =
+        let e = ap status q in
+        (λ z. let v = sym e ∙ z in let b = zero-begun v in (b, s b .0 (w .0 v)), λ p. e ∙ w .1 (s (p .0) .1 (p .1)))
