@@ -1,10 +1,14 @@
 // Read one value, Read a certificate, Verify a certificate and Show a token for C: what is returned is 0 or 01's number of the
 // refusal, results go through pointers, and the tables are the caller's. include/vipr.h declares the functions.
+ghost use mathlib.Core.Path.{_≡_};
+ghost use Prim.Native.Nat.{_≤_};
 ghost use Rattle.fraction_c.specs.Stored.{pair};
+ghost use Rattle.grammar.specs.Refusals.{refusalNumber};
 ghost use Rattle.vipr_c.specs.Values.{ValueReturned};
 ghost use Rattle.vipr_c.specs.Shown.{TokenMeasured};
-ghost use Rattle.vipr_c.specs.Certificates.{CertificateReturned, VerificationReturned};
+ghost use Rattle.vipr_c.specs.Certificates.{reply, CertificateReturned, VerificationReturned};
 use checker::Verification;
+use grammar::Refusal;
 use reader::Reading;
 use value::ValueAnswer;
 
@@ -36,6 +40,16 @@ pub extern "C" fn vipr_show_token(text: &[u8], place: usize) -> usize
     shown.len()
 }
 
+// A refusal's number, with its line stored.
+fn refused(reason: Refusal, at: usize, line: &mut u32) -> u8
+    requires { ⌜ at ≤ 32769 ⌝ }
+    ensures { λ r. ⌜ reply r (now (line .exit)) ≡ reply (refusalNumber reason) at ⌝ }
+{
+    let stored = at as u32;
+    *line = stored;
+    grammar::number(reason)
+}
+
 // Read a certificate: 0 and line 0, with the tables filled; or the reason and the line.
 #[no_mangle]
 pub extern "C" fn vipr_read_certificate(
@@ -52,10 +66,7 @@ pub extern "C" fn vipr_read_certificate(
             *line = 0;
             0
         }
-        Reading::Refused(reason, at) => {
-            *line = at as u32;
-            grammar::number(reason)
-        }
+        Reading::Refused(reason, at) => refused(reason, at, line),
     }
 }
 
@@ -75,9 +86,6 @@ pub extern "C" fn vipr_verify(
             *line = 0;
             0
         }
-        Verification::Refused(reason, at) => {
-            *line = at as u32;
-            grammar::number(reason)
-        }
+        Verification::Refused(reason, at) => refused(reason, at, line),
     }
 }

@@ -1,11 +1,9 @@
--- `vipr_c::vipr_read_certificate` meets its contract: each arm returns and stores what `readingSays` says of its case, and a line
--- fits a u32.
+-- `vipr_c::vipr_read_certificate` meets its contract: each arm returns and stores what `readingSays` says of its case.
+use mathlib.Core.Path.{refl}
 use borrow.Author.Needs.{needs}
-use native.Mathlib.Omega.{arith}
 use Rattle.vipr_c.proofs.vipr_read_certificate.Statement.{statement}
 use Rattle.vipr_c.proofs.vipr_read_certificate.Tie as tie
-use mathlib.Core.Path.{refl}
-use Rattle.vipr_c.proofs.CertificateLaws.{same-line, read-line, read-returned}
+use Rattle.vipr_c.proofs.CertificateLaws.{read-line, read-returned}
 
 read-certificate-requires : tie.Need-read-certificate-requires
 read-certificate-requires c κs = search needs
@@ -16,11 +14,8 @@ enum-told c = search needs
 enum-known-reason : tie.Need-enum-known-reason
 enum-known-reason c = search needs
 
-cast-line : tie.Need-cast-line
-cast-line c = record { fits = omega (arith, read-line (c .before .before .before .before .before .before .before .before .read-certificate .ensures) (c .before .reason .given .1)) }
-
-number-requires : tie.Need-number-requires
-number-requires c κs = search needs
+refused-requires : tie.Need-refused-requires
+refused-requires c κs = read-line (c .before .before .before .before .before .before .before .before .before .read-certificate .ensures) (c .before .before .reason .given .1)
 
 same-length : tie.Need-same-length
 same-length c = search needs
@@ -44,7 +39,7 @@ same-length-6 : tie.Need-same-length-6
 same-length-6 c = search needs
 
 returns-2 : tie.Need-returns-2
-returns-2 c = read-returned (c .before .before .before .before .before .before .before .before .before .read-certificate .ensures) _ (c .before .before .reason .given .1) (same-line _ (c .number .ensures))
+returns-2 c = read-returned (c .before .before .before .before .before .before .before .before .before .before .read-certificate .ensures) _ (c .before .before .before .reason .given .1) (c .refused .ensures)
 
 pub vipr-read-certificate-spec : {M : Type 1} → statement M
 vipr-read-certificate-spec =
@@ -53,8 +48,7 @@ vipr-read-certificate-spec =
     read-certificate-requires
     enum-told
     enum-known-reason
-    cast-line
-    number-requires
+    refused-requires
     same-length
     same-length-2
     same-length-3
