@@ -5,6 +5,7 @@ pub mod CombinationLaws
 pub mod SuitableLaws
 pub mod SolutionsLaws
 pub mod DerivationsLaws
+pub mod AssumptionsLaws
 pub mod LastRow
 pub mod ClaimsLaws
 pub mod InOrder

@@ -8,13 +8,18 @@ ghost use Rattle.grammar.specs.Tree.{Tree};
 ghost use Rattle.rules.specs.Tests.{Decides};
 ghost use Rattle.rules.specs.Assumptions.{assumptionsOf, isEmpty};
 ghost use Rattle.sets.specs.Sets.{bit};
-ghost use Rattle.checker.specs.Held.{Stands, Found};
+ghost use Rattle.sets.specs.Course.{unionBit, withoutBit, reasonBit};
+ghost use Rattle.checker.specs.Tables.{cellsAt, NamedBelow};
+ghost use Rattle.checker.specs.Held.{derivationAt, Stands, Found};
 use crate::derivations;
 use crate::tables;
 use crate::tables::Frame;
 
 // The union of the sets of the rows that stand in so many cells.
-fn union_of(index: &[u16], all: &[u64; 1024], cell: usize, count: usize) -> u64 {
+fn union_of(index: &[u16], all: &[u64; 1024], cell: usize, count: usize) -> u64
+    requires { ⌜ NamedBelow (now index) 1024 cell count ⌝ }
+    ensures { λ s. ⌜ ((j : ℕ) → bit s j ≡ unionBit (now (all .entry)) (cellsAt (now (index .entry)) cell count) j) ⌝ }
+{
     let mut union = 0;
     let mut at = cell;
     let mut left = count;
@@ -27,19 +32,17 @@ fn union_of(index: &[u16], all: &[u64; 1024], cell: usize, count: usize) -> u64 
     union
 }
 
-// A set without row l: only an assumption can be in it.
-fn without_row(
-    index: &[u16],
-    rows: &[u16],
-    frame: Frame,
-    all: &[u64; 1024],
-    set: u64,
-    l: usize,
-) -> u64 {
+// The set of row i without row l, where i and l stand in this cell and the next: only an assumption can be in a set.
+fn without_row(index: &[u16], rows: &[u16], frame: Frame, all: &[u64; 1024], cell: usize) -> u64
+    requires { ⌜ Found frame (now index) (now rows) × NamedBelow (now index) (frame .given + frame .derived) cell 2 ⌝ }
+    ensures { λ s. ⌜ ((tree : Tree) (values : List ℤ) → Stands tree frame (now (index .entry)) values (now (rows .entry)) → (j : ℕ) → bit s j ≡ withoutBit tree (now (all .entry)) (getD (now (index .entry)) cell 0) (getD (now (index .entry)) (cell + 1) 0) j) ⌝ }
+{
+    let i = index[cell] as usize;
+    let l = index[cell + 1] as usize;
     if derivations::is_assumption(index, rows, frame, l) {
-        sets::without(set, all[l])
+        sets::without(all[i], all[l])
     } else {
-        set
+        all[i]
     }
 }
 
@@ -51,31 +54,18 @@ fn set_of(
     all: &[u64; 1024],
     k: usize,
     assumed: usize,
-) -> u64 {
+) -> u64
+    requires { ⌜ Found frame (now index) (now rows) × (k < frame .derived) ⌝ }
+    ensures { λ s. ⌜ ((tree : Tree) (values : List ℤ) → Stands tree frame (now (index .entry)) values (now (rows .entry)) → (j : ℕ) → bit s j ≡ reasonBit tree (now (all .entry)) assumed (derivationAt tree k .reason) j) ⌝ }
+{
     let cell = tables::reason_at(index, rows, frame.given + k);
     let word = index[cell];
     if word == 0 {
         return sets::single(assumed);
     }
     if word == 3 {
-        let first = index[cell + 1] as usize;
-        let second = index[cell + 3] as usize;
-        let a = without_row(
-            index,
-            rows,
-            frame,
-            all,
-            all[first],
-            index[cell + 2] as usize,
-        );
-        let b = without_row(
-            index,
-            rows,
-            frame,
-            all,
-            all[second],
-            index[cell + 4] as usize,
-        );
+        let a = without_row(index, rows, frame, all, cell + 1);
+        let b = without_row(index, rows, frame, all, cell + 3);
         return sets::union(a, b);
     }
     if word == 4 {

@@ -9,7 +9,7 @@ use native.Mathlib.Nat.{add-zero, zero-add}
 use native.Mathlib.Omega.{arith}
 use borrow.Author.Tests.{eqb-true, eqb-false, ltb-true, ltb-false}
 use lib.Dec.{eqb, ltb}
-use lib.ListN.{length, getD, set, take, drop, replicate, take-append-drop, length-append, length-set, length-replicate, getD-replicate, length-map, List·getD-map, List·getD-append, List·getD-eq-default}
+use lib.ListN.{length, getD, set, take, drop, replicate, length-append, length-set, length-replicate, getD-replicate, length-map, List·getD-map, List·getD-append, List·getD-eq-default}
 use lib.Seq.{take-all, length-take-le, take-suc, split-at, getD-at, getD-set-same, getD-set-other}
 use Rattle.grammar.specs.Tree.{Row, Multiplier, Reason, asm, lin, rnd, uns, sol, Derivation, Tree}
 use Rattle.grammar.specs.Certificate.{isAssumption, assumptions}
@@ -256,13 +256,6 @@ stand-start tree =
         go true e = getD-replicate 1024 i 0 0 (ltb-true i 1024 e)
         go false e = List·getD-eq-default (replicate 1024 0) 0 {n = i} (omega (arith, ltb-false i 1024 e, length-replicate {A = ℕ} 1024 0))
 
--- "The 65th word `asm` is 5": a mask has a bit for each asm row
-pub stand-few : {tree : Tree} {k n : ℕ} {masks : List ℕ} → TreeInRange tree → Stand tree k n masks → n ≤ 64
-stand-few {tree} {k} {n} t now =
-    let ds = tree .derivations .derivations in
-    let counted : assumptions ds ≡ assumptions (take k ds) + assumptions (drop k ds) = ap assumptions (sym (take-append-drop k ds)) ∙ assumptions-append (take k ds) (drop k ds) in
-    omega (arith, counted, asms-length (given tree) (take k ds), now .at .counted, t .assumptions-most)
-
 -- ---- one derivation more
 
 module _ {tree : Tree} (t : TreeInRange tree) {k n : ℕ} {masks : List ℕ} (now : Stand tree k n masks) {own : ℕ} (here : own ≡ given tree + k) where
@@ -363,11 +356,6 @@ module _ {tree : Tree} (t : TreeInRange tree) {k n : ℕ} {masks : List ℕ} (no
 
 -- ---- at the end
 
-same-test : {P : Type 0} (a b : Bool) → Decides a P → Decides b P → a ≡ b
-same-test true b p q = sym (q .1 (p .0 refl))
-same-test false true p q = p .1 (q .0 refl)
-same-test false false p q = refl
-
 -- a mask has no bits exactly if the row has "no assumptions"
 pub stand-end : {tree : Tree} {k n : ℕ} {masks : List ℕ} → Stand tree k n masks → length (tree .derivations .derivations) ≤ k → (i : ℕ)
     → Decides (isEmpty (assumptionsOf tree i)) ((j : ℕ) → bit (getD masks i 0) j ≡ 0)
@@ -376,8 +364,3 @@ stand-end {tree} {k} {n} {masks} now done i =
     let start = map (λ (row : Row). []) (tree .constraints .rows) in
     represents-empty
     (subst (λ (ds : List Derivation). Represents (asmsAfter tree k) (bit (getD masks i 0)) (getD (setsFrom start ds) i [])) (take-all k (tree .derivations .derivations) done) (now .at .shows .each i))
-
--- so the test of a mask is the test of rules
-pub stand-empty : {tree : Tree} {k n : ℕ} {masks : List ℕ} → Stand tree k n masks → length (tree .derivations .derivations) ≤ k → (i : ℕ) (r : Bool)
-    → Decides r ((j : ℕ) → bit (getD masks i 0) j ≡ 0) → r ≡ isEmpty (assumptionsOf tree i)
-stand-empty {tree} {masks = masks} now done i r d = same-test r (isEmpty (assumptionsOf tree i)) d (stand-end now done i)
