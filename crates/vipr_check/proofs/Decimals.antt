@@ -41,10 +41,11 @@ module _ (n k : ℕ) (f : Fewest 10 1 n (suc (suc k))) where
   two-digits = omega (arith, least, pow-le-pow-right {n = 10} (lit< tt) {i = 0} {j = k} (omega arith))
 
   one-less : Fewest 10 1 (n / 10) (suc k)
-  one-less =
-      (omega arith
-      , div-lt-iff-lt-mul {k = 10} {x = n} {y = 10 ^ suc k} (lit< tt) .1 (subst (λ (m : ℕ). n < m) (pow-suc 10 (suc k)) (f .1))
-      , λ h. subst (λ (j : ℕ). 10 ^ j ≤ n / 10) (omega arith) (le-div-iff-mul-le {k = 10} {x = 10 ^ k} {y = n} (lit< tt) .1 least))
+  one-less = (
+    omega arith,
+    div-lt-iff-lt-mul {k = 10} {x = n} {y = 10 ^ suc k} (lit< tt) .1 (subst (λ (m : ℕ). n < m) (pow-suc 10 (suc k)) (f .1)),
+    λ h. subst (λ (j : ℕ). 10 ^ j ≤ n / 10) (omega arith) (le-div-iff-mul-le {k = 10} {x = 10 ^ k} {y = n} (lit< tt) .1 least),
+  )
 
 spelled : (k most n : ℕ) → n < most → Fewest 10 1 n k → digits 10 k n ≡ decimalBy most n
 unfolding decimalBy

@@ -7,6 +7,10 @@ use native.Mathlib.Omega.{arith}
 use lib.ListN.{length, take, length-take}
 use Rattle.io.specs.Counts.{Counts}
 use Rattle.text.specs.Bytes.{Bytes}
+use Rattle.grammar.specs.Tables.{indexCells, valueCells, rowCells}
+use Rattle.reader.specs.Promise.{courseOf}
+use Rattle.checker.specs.Promise.{answerOf}
+use Rattle.vipr_check.specs.Line.{lineFor, printed}
 
 -- a line that got one more part
 extended : {line′ line whole : Bytes} (part : Bytes) → line ≡ whole → line′ ≡ line ++ part → line′ ≡ whole ++ part
@@ -20,3 +24,7 @@ five-parts a b c d e h₁ h₂ h₃ h₄ h₅ = extended e (extended d (extended
 -- a number of bytes that the line has
 pub counted : (n : ℕ) (line : Bytes) → n ≤ length line → Counts n line
 counted n line h = (h, omega (arith, length-take n line))
+
+-- the line for a text, with tables of so many cells
+pub with-cells : (text : Bytes) {i v r : ℕ} → i ≡ indexCells → v ≡ valueCells → r ≡ rowCells → lineFor (answerOf text (courseOf text i v r)) ≡ printed text
+with-cells text p q s = λ j. lineFor (answerOf text (courseOf text (p j) (q j) (s j)))

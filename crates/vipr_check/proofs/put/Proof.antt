@@ -17,59 +17,51 @@ Inv-loop line₀ at bytes i₀ line i = (i ≤ length bytes) × (line ≡ paste 
 abbrev μ-loop : tie.MeasureT-loop
 μ-loop line₀ at bytes i₀ line i = length bytes - i
 
--- src/main.rt:54:5
 loop-holds : tie.Need-loop-holds Inv-loop μ-loop
 loop-holds c = (search needs, paste-zero (c .args .line .now) (c .args .at) (c .args .bytes .now), refl)
 
--- src/main.rt:55:24
 shared-slice-read-line : tie.Need-shared-slice-read-line Inv-loop μ-loop
 shared-slice-read-line c = search needs
 
--- src/main.rt:55:14
 add-line : tie.Need-add-line Inv-loop μ-loop
 add-line c = search needs
 
--- src/main.rt:55:9
 slice-write-line : tie.Need-slice-write-line Inv-loop μ-loop
 slice-write-line c = search needs
 
--- src/main.rt:56:9
 add-i : tie.Need-add-i Inv-loop μ-loop
 add-i c = search needs
 
--- src/main.rt:54:5
 loop-less : tie.Need-loop-less Inv-loop μ-loop
 loop-less c = search needs
 
--- src/main.rt:54:5
 loop-again : tie.Need-loop-again Inv-loop μ-loop
 loop-again c =
     let l = c .before .before .loop in
     let s = c .before .before .before .args in
     let one-more : suc (l .i) ≡ l .i + 1 = omega arith in
-    let next = paste-suc (s .line .now) (s .at) (s .bytes .now) (l .i) 0 (search needs) (search needs) in
-    (search needs
-    , ap (λ (d : List ℕ). set d (s .at + l .i) (getD (s .bytes .now) (l .i) 0)) (l .inv .1) ∙ next ∙ ap (paste (s .line .now) (s .at) (s .bytes .now)) one-more
-    , search needs)
+    let next = paste-suc (s .line .now) (s .at) (s .bytes .now) (l .i) 0 (search needs) (search needs) in (
+      search needs,
+      ap (λ (d : List ℕ). set d (s .at + l .i) (getD (s .bytes .now) (l .i) 0)) (l .inv .1) ∙ next ∙ ap (paste (s .line .now) (s .at) (s .bytes .now)) one-more,
+      search needs,
+    )
 
--- src/main.rt:58:5
 add-result : tie.Need-add-result Inv-loop μ-loop
 add-result c = search needs
 
--- src/main.rt:48:1
 same-length : tie.Need-same-length Inv-loop μ-loop
 same-length c = search needs
 
--- src/main.rt:48:1
 returns : tie.Need-returns Inv-loop μ-loop
 returns c =
     let s = c .before .before .args in
-    let ended : c .before .loop .i ≡ length (s .bytes .now) = search needs in
-    (ap (_+_ (s .at)) ended
-    , ap (take (s .at + c .before .loop .i)) (c .before .loop .inv .1)
-    ∙ take-paste (s .line .now) (s .at) (s .bytes .now) (c .before .loop .i) (search needs) (search needs)
-    ∙ ap (λ (k : ℕ). take (s .at) (s .line .now) ++ take k (s .bytes .now)) ended
-    ∙ ap (_++_ (take (s .at) (s .line .now))) (take-length (s .bytes .now)))
+    let ended : c .before .loop .i ≡ length (s .bytes .now) = search needs in (
+      ap (_+_ (s .at)) ended,
+      ap (take (s .at + c .before .loop .i)) (c .before .loop .inv .1)
+          ∙ take-paste (s .line .now) (s .at) (s .bytes .now) (c .before .loop .i) (search needs) (search needs)
+          ∙ ap (λ (k : ℕ). take (s .at) (s .line .now) ++ take k (s .bytes .now)) ended
+          ∙ ap (_++_ (take (s .at) (s .line .now))) (take-length (s .bytes .now)),
+    )
 
 pub put-spec : {M : Type 1} → statement M
 put-spec =

@@ -36,9 +36,10 @@ returns : tie.Need-returns
 unfolding lineFor
 returns c =
     let p = c .before .before .put in
-    let s = c .before .before .before .before .before .before .before .before in
-    (counted (p .result) (p .last .0) (omega (arith, p .ensures .0, p .kept .0, s .pre))
-    , p .ensures .1 ∙ ap (λ (v : Verification). lineFor (verificationSays v)) (sym (c .before .before .before .before .before .enum-told .given .1)))
+    let s = c .before .before .before .before .before .before .before .before in (
+      counted (p .result) (p .last .0) (omega (arith, p .ensures .0, p .kept .0, s .pre)),
+      p .ensures .1 ∙ ap (λ (v : Verification). lineFor (verificationSays v)) (sym (c .before .before .before .before .before .enum-told .given .1)),
+    )
 
 same-length-2 : tie.Need-same-length-2
 same-length-2 c = search needs
@@ -48,11 +49,12 @@ returns-2 c =
     let p = c .before .before .put-refused in
     let n = c .before .before .before .number in
     let a = c .before .before .before .before .before .before .answer in
-    let s = c .before .before .before .before .before .before .before .before .before in
-    (counted (p .result) (p .last .0) (omega (arith, p .ensures .0, p .kept .0, s .pre))
-    , p .ensures .1
-    ∙ ap (λ (k : ℕ). lineFor (refuses k (a .given .0 .1 .0))) (n .ensures)
-    ∙ ap (λ (v : Verification). lineFor (verificationSays v)) (sym (a .given .1)))
+    let s = c .before .before .before .before .before .before .before .before .before in (
+      counted (p .result) (p .last .0) (omega (arith, p .ensures .0, p .kept .0, s .pre)),
+      p .ensures .1
+          ∙ ap (λ (k : ℕ). lineFor (refuses k (a .given .0 .1 .0))) (n .ensures)
+          ∙ ap (λ (v : Verification). lineFor (verificationSays v)) (sym (a .given .1)),
+    )
 
 pub put-answer-spec : {M : Type 1} → statement M
 put-answer-spec =

@@ -31,10 +31,11 @@ returns : tie.Need-returns
 returns c =
     let p = c .before .before .put in
     let d = c .before .before .before .before .before .decimal in
-    let s = c .before .before .before .before .before .before .before .before in
-    (omega (arith, few (s .args .n) (d .result) (s .fits .n) (d .ensures .1 .0), d .ensures .0 .1, p .ensures .0)
-    , p .ensures .1
-    ∙ ap (_++_ (take (s .args .at) (s .args .line .now))) (d .ensures .1 .1 ∙ fewest-decimal (s .args .n) (d .result) (d .ensures .1 .0)))
+    let s = c .before .before .before .before .before .before .before .before in (
+      omega (arith, few (s .args .n) (d .result) (s .fits .n) (d .ensures .1 .0), d .ensures .0 .1, p .ensures .0),
+      p .ensures .1
+          ∙ ap (_++_ (take (s .args .at) (s .args .line .now))) (d .ensures .1 .1 ∙ fewest-decimal (s .args .n) (d .result) (d .ensures .1 .0)),
+    )
 
 pub put-decimal-spec : {M : Type 1} → statement M
 put-decimal-spec =

@@ -41,10 +41,11 @@ returns c =
     let after-space = after-digits .before .before .before .before in
     let after-reason = after-space .before .before .before .before .before in
     let after-word = after-reason .before .before .before .before in
-    let s = after-word .before .before .before .before .args in
-    (search needs
-    , five-parts (ascii "refused ") (decimal (s .reason)) (ascii " ") (decimal (s .at)) (ascii "\n")
-    (after-word .put .ensures .1) (after-reason .put-decimal .ensures .1) (after-space .put2 .ensures .1) (after-digits .put-decimal2 .ensures .1) (c .before .before .put3 .ensures .1))
+    let s = after-word .before .before .before .before .args in (
+      search needs,
+      five-parts (ascii "refused ") (decimal (s .reason)) (ascii " ") (decimal (s .at)) (ascii "\n")
+          (after-word .put .ensures .1) (after-reason .put-decimal .ensures .1) (after-space .put2 .ensures .1) (after-digits .put-decimal2 .ensures .1) (c .before .before .put3 .ensures .1),
+    )
 
 pub put-refused-spec : {M : Type 1} → statement M
 put-refused-spec =
