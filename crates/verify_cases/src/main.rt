@@ -502,25 +502,49 @@ fn afterwards() {
     );
 }
 
-// Tables of one cell less than needed, and a text of one byte more: the tables are untouched.
-fn small() {
+fn first(table: &[u16]) {
+    if 0 < table.len() {
+        cell(table[0]);
+    }
+}
+
+// Verifies a text with these tables, and writes the answer and their first cells.
+fn into(name: &[u8], text: &[u8], index: &mut [u16], values: &mut [i32], rows: &mut [u16]) {
+    put(name);
+    answer(checker::verify(text, index, values, rows));
+    first(index);
+    first(rows);
+    put(b"\n");
+}
+
+// Tables of one cell less than needed, and a text of one byte more.
+fn small_rows() {
+    let text = [32u8; 32769];
+    let mut index = [7u16; 16384];
+    let mut values = [7i32; 16384];
+    let mut rows = [7u16; 4351];
+    into(
+        b"a row table of 4,351 cells",
+        &text,
+        &mut index,
+        &mut values,
+        &mut rows,
+    );
+}
+
+fn long_text() {
     let text = [32u8; 32769];
     let mut index = [7u16; 16384];
     let mut values = [7i32; 16384];
     let mut rows = [7u16; 4352];
-    put(b"a row table of 4,351 cells");
-    answer(checker::verify(&text, &mut index, &mut values, &mut rows[..4351]));
-    put(b"32,769 bytes");
-    answer(checker::verify(&text, &mut index, &mut values, &mut rows));
-    cell(index[0]);
-    value(values[0]);
-    cell(rows[0]);
-    put(b"\n32,768 bytes");
-    answer(checker::verify(&text[0..32768], &mut index, &mut values, &mut rows));
-    cell(index[0]);
-    value(values[0]);
-    cell(rows[0]);
-    put(b"\n");
+    into(b"32,769 bytes", &text, &mut index, &mut values, &mut rows);
+    into(
+        b"32,768 bytes",
+        &text[0..32768],
+        &mut index,
+        &mut values,
+        &mut rows,
+    );
 }
 
 fn main() {
@@ -537,5 +561,6 @@ fn main() {
     claims();
     ranges();
     afterwards();
-    small();
+    small_rows();
+    long_text();
 }
