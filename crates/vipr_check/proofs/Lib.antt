@@ -1,0 +1,3 @@
+-- Laws that the proofs of the program cite.
+pub mod Decimals
+pub mod Lines
