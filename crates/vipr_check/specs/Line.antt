@@ -3,7 +3,8 @@
 -- Assumes nothing.
 use Prim.Native.Nat.{ℕ, zero, suc, _+_, _/_, _%_, _≤_}
 use mathlib.Core.Bool.{cond}
-use mathlib.Core.List.{[], _∷_, _++_}
+use mathlib.Core.List.{[], _∷_, _++_, map}
+use mathlib.Core.Path.{_≡_, refl}
 use lib.Dec.{ltb}
 use Rattle.text.specs.Bytes.{Bytes}
 use Rattle.text.specs.Ascii.{ascii}
@@ -29,6 +30,11 @@ lineFor (refuses reason line) = ascii "refused " ++ decimal reason ++ ascii " " 
 -- the line for a text, with tables of just the cells needed
 abbrev pub printed : Bytes → Bytes
 printed text = lineFor (answerOf text (courseOf text indexCells valueCells rowCells))
+
+-- the lines of three answers, byte by byte
+pub worked : map lineFor (verifies ∷ refuses 15 14 ∷ refuses 2 0 ∷ []) ≡ ascii "verified\n" ∷ ascii "refused 15 14\n" ∷ ascii "refused 2 0\n" ∷ []
+unfolding lineFor decimalBy
+worked = refl
 
 -- what came has room
 abbrev pub Fits : ℕ → Input → Type 0
