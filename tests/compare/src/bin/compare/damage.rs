@@ -46,13 +46,15 @@ fn pick_mut<'a, T>(items: &'a mut [T], prng: &mut Prng) -> Option<&'a mut T> {
 
 type DraftDamage = fn(&mut Draft, &mut Prng) -> Option<()>;
 
-const DRAFT_DAMAGE: [DraftDamage; 27] = [
+const DRAFT_DAMAGE: [DraftDamage; 29] = [
     spend_row,
     spend_row,
     drop_last_row,
     exchange_split,
     move_split,
     move_split,
+    split_on_given_row,
+    lean_on_assumption,
     assume_row,
     break_solution,
     break_integrality,
@@ -130,11 +132,12 @@ fn exchange_split(draft: &mut Draft, prng: &mut Prng) -> Option<()> {
     let reason = pick_reason(draft, |reason| matches!(reason, Reason::Uns { .. }), prng)?;
     let &mut Reason::Uns { i1, l1, i2, l2 } = reason else { return None };
     let below = |row: usize, prng: &mut Prng| prng.below((row + 1).min(rows));
-    *reason = match prng.below(6) {
+    *reason = match prng.below(7) {
         0..=1 => Reason::Uns { i1, l1: l2, i2, l2: l1 },
         2 => Reason::Uns { i1, l1, i2, l2: l1 },
         3 => Reason::Uns { i1: below(i1, prng), l1, i2, l2 },
         4 => Reason::Uns { i1, l1: below(l1, prng), i2, l2 },
+        5 => Reason::Uns { i1, l1, i2, l2: below(l2, prng) },
         _ => Reason::Uns { i1: i2, l1, i2: i2, l2 },
     };
     Some(())
@@ -144,8 +147,9 @@ fn exchange_split(draft: &mut Draft, prng: &mut Prng) -> Option<()> {
 fn move_split(draft: &mut Draft, prng: &mut Prng) -> Option<()> {
     let objective = draft.objective.clone();
     let row = pick_row_with(draft, |reason| matches!(reason, Reason::Asm), prng)?;
-    match prng.below(5) {
+    match prng.below(6) {
         0 => row.sense = *prng.pick(&[Sense::Equal, Sense::Less, Sense::Greater]),
+        3 => row.right = Fraction::new(i64::from(row.right.num()), *prng.pick(&[2, 3]))?,
         1 => row.left = Left::Terms(objective),
         2 => change_term(&mut row.left, prng)?,
         _ => row.right = other_value(row.right, prng),
@@ -157,6 +161,51 @@ fn change_term(left: &mut Left, prng: &mut Prng) -> Option<()> {
     let Left::Terms(terms) = left else { return None };
     let term = pick_mut(terms, prng)?;
     term.value = other_value(term.value, prng);
+    Some(())
+}
+
+/// One side of a split is a given row, which is no assumption.
+fn split_on_given_row(draft: &mut Draft, prng: &mut Prng) -> Option<()> {
+    let given = prng.below(draft.given());
+    let mut other_side = draft.rows.get(given).filter(|_| draft.given() > 0)?.clone();
+    let (sense, step) = match other_side.sense {
+        Sense::Less => (Sense::Greater, Fraction::ONE),
+        Sense::Greater => (Sense::Less, Fraction::ONE.negated()),
+        Sense::Equal => return None,
+    };
+    (other_side.sense, other_side.right) = (sense, other_side.right.sum(step)?);
+    other_side.name = "other-side".to_string();
+    draft.rows.push(other_side);
+    draft.derivations.push(Derivation { reason: Reason::Asm, last: None });
+    let (joined, mut sides) = (prng.below(draft.rows.len()), [given, draft.rows.len() - 1]);
+    prng.shuffle(&mut sides);
+    draft.rows.push(Row { name: "joined".to_string(), ..draft.rows[joined].clone() });
+    let reason = Reason::Uns { i1: joined, l1: sides[0], i2: joined, l2: sides[1] };
+    draft.derivations.push(Derivation { reason, last: None });
+    Some(())
+}
+
+/// The last row is combined with an assumption times 0 as well, and so keeps it.
+fn lean_on_assumption(draft: &mut Draft, _: &mut Prng) -> Option<()> {
+    let given = draft.given();
+    let assumed = draft.derivations.iter().position(|derivation| matches!(derivation.reason, Reason::Asm))?;
+    match &mut draft.derivations.last_mut()?.reason {
+        Reason::Lin(multipliers) | Reason::Rnd(multipliers) => {
+            multipliers.retain(|multiplier| multiplier.row != given + assumed);
+            multipliers.push(Multiplier { row: given + assumed, value: Fraction::ZERO });
+        }
+        &mut Reason::Uns { i1, .. } => {
+            let copied = Row { name: "copied".to_string(), ..draft.rows[i1].clone() };
+            let multipliers = vec![
+                Multiplier { row: given + assumed, value: Fraction::ZERO },
+                Multiplier { row: draft.rows.len() - 1, value: Fraction::ONE },
+            ];
+            draft.rows.push(copied);
+            draft.derivations.push(Derivation { reason: Reason::Lin(multipliers), last: None });
+        }
+        Reason::Asm | Reason::Sol => return None,
+    }
+    draft.derivations[assumed].last = None;
     Some(())
 }
 
@@ -403,7 +452,7 @@ pub fn damage_tokens(tokens: &mut Vec<Token>, prng: &mut Prng) {
         return;
     }
     let place = prng.below(tokens.len());
-    match prng.below(18) {
+    match prng.below(22) {
         0 => {
             tokens.remove(place);
         }
@@ -421,8 +470,11 @@ pub fn damage_tokens(tokens: &mut Vec<Token>, prng: &mut Prng) {
         10 | 11 => alter(tokens, Kind::Value, prng),
         12 | 13 => replace(tokens, Kind::Value, prng.pick(&EDGE_VALUES).as_bytes(), prng),
         14 => alter(tokens, Kind::Last, prng),
-        15 => alter(tokens, Kind::RowName, prng),
-        16 => alter(tokens, Kind::Sense, prng),
+        15 => replace(tokens, Kind::Last, prng.pick(&["-1", "-01", "-0", "-2", "0", "+1", "65535", "00001", "1024"]).as_bytes(), prng),
+        16 => alter(tokens, Kind::RowName, prng),
+        17 => alter(tokens, Kind::Sense, prng),
+        18 => exceed_count(tokens, prng),
+        19 => sully_name(tokens, prng),
         _ => alter(tokens, Kind::Word, prng),
     }
 }
@@ -458,6 +510,30 @@ fn nudged(bytes: &[u8], prng: &mut Prng) -> Vec<u8> {
         _ => nudged.push(*prng.pick(b"0123456789./-")),
     }
     nudged
+}
+
+/// The count of a section takes a limit, or one more.
+fn exceed_count(tokens: &mut [Token], prng: &mut Prng) {
+    let counts: Vec<usize> = (1..tokens.len())
+        .filter(|&place| tokens[place - 1].kind == Kind::Section && tokens[place].kind == Kind::Count)
+        .collect();
+    if let Some(&place) = counts.get(prng.below(counts.len())) {
+        let (limit, beyond) = match &tokens[place - 1].bytes[..] {
+            b"VAR" => ("256", "257"),
+            b"CON" => ("1024", "1025"),
+            b"SOL" => ("64", "65"),
+            _ => ("1023", "1024"),
+        };
+        tokens[place].bytes = if prng.chance(30) { limit } else { beyond }.as_bytes().to_vec();
+    }
+}
+
+/// A byte at the edges of those allowed goes into a name.
+fn sully_name(tokens: &mut [Token], prng: &mut Prng) {
+    let kind = *prng.pick(&[Kind::RowName, Kind::VariableName, Kind::SolutionName]);
+    if let Some(place) = pick_kind(tokens, kind, prng) {
+        tokens[place].bytes.push(*prng.pick(&[0, 11, 12, 28, 31, 33, 126, 127, 128, 133, 160, 255]));
+    }
 }
 
 /// Two neighbouring sections trade places.

@@ -14,6 +14,9 @@ use crate::prng::Prng;
 
 /// A few rows with wide numbers and combinations of them: sums that grow too wide on the way, or fit by a little.
 pub fn wide(prng: &mut Prng) -> Draft {
+    if prng.chance(30) {
+        return detour(prng);
+    }
     let variables = prng.from(1, 4) as usize;
     let direction = *prng.pick(&[Direction::Min, Direction::Max]);
     let mut draft = Draft::new((0..variables).map(|variable| format!("x{variable}")).collect(), direction);
@@ -32,6 +35,37 @@ pub fn wide(prng: &mut Prng) -> Draft {
     }
     let mut end = || prng.chance(20).then(|| wide_or_small(prng));
     draft.claim = Claim::Range { lower: end(), upper: end() };
+    draft
+}
+
+/// Sums of whole numbers near the limit: whether they grow too wide depends on the order in which they are taken.
+fn detour(prng: &mut Prng) -> Draft {
+    let variables = prng.from(2, 5) as usize;
+    let mut draft = Draft::new((0..variables).map(|_| "x".to_string()).collect(), Direction::Min);
+    let value = |prng: &mut Prng| {
+        Fraction::whole(*prng.pick(&[2147483647, -2147483647, 2147483646, 1073741824, -1073741824, 1, -1, 0]))
+    };
+    for _ in 0..prng.from(2, 5) {
+        let coefficients = (0..variables).map(|_| value(prng)).collect();
+        draft.add_given(&Constraint { coefficients, sense: Sense::Equal, right: value(prng) }, prng);
+    }
+    if prng.chance(50) {
+        for row in &mut draft.rows {
+            (row.sense, row.right) = (Sense::Less, Fraction::whole(2147483647));
+        }
+        let terms = (0..variables).map(|variable| Term { variable, value: Fraction::whole(*prng.pick(&[1, 1, -1])) });
+        draft.solutions.push(Solution { name: "s".to_string(), terms: terms.collect() });
+        draft.objective = draft.rows.pop().map_or(Vec::new(), |row| draft.terms(&row).to_vec());
+    } else {
+        let multipliers = prng
+            .distinct(8, draft.rows.len())
+            .into_iter()
+            .map(|row| Multiplier { row, value: Fraction::whole(*prng.pick(&[1, 1, -1])) })
+            .collect();
+        let target = Constraint { coefficients: values(variables, prng), sense: Sense::Equal, right: Fraction::ZERO };
+        draft.derive(&target, Reason::Lin(multipliers), prng);
+    }
+    draft.claim = Claim::Range { lower: None, upper: None };
     draft
 }
 

@@ -91,7 +91,8 @@ fn integers(program: &Program, places: &[usize], variables: usize, prng: &mut Pr
 /// The points found, the best among them, and copies that differ in the variables that the program does not need.
 fn solutions(draft: &Draft, found: &Found, places: &[usize], size: Size, prng: &mut Prng) -> Vec<Solution> {
     let mut points: Vec<&Vec<Fraction>> = found.points.iter().rev().take(size.solutions).collect();
-    while !points.is_empty() && points.len() < size.solutions && prng.chance(70) {
+    let wanted = 1 + prng.below(size.solutions);
+    while !points.is_empty() && points.len() < wanted {
         points.push(*prng.pick(&points));
     }
     prng.shuffle(&mut points);

@@ -49,7 +49,7 @@ impl Texts {
     fn add_family(&mut self) {
         match self.prng.below(100) {
             0..=11 => self.add_wide(),
-            12..=13 => self.add_full(),
+            12..=17 => self.add_full(),
             _ => self.add_damaged(),
         }
     }
