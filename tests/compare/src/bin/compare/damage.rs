@@ -28,7 +28,8 @@ pub fn wide_value(prng: &mut Prng) -> Fraction {
 }
 
 fn other_value(value: Fraction, prng: &mut Prng) -> Fraction {
-    let step = Fraction::new(i64::from(*prng.pick(&[-2, -1, 1, 2])), *prng.pick(&[1, 1, 1, 2, 1000])).unwrap_or(Fraction::ONE);
+    let step =
+        Fraction::new(i64::from(*prng.pick(&[-2, -1, 1, 2])), *prng.pick(&[1, 1, 1, 2, 1000])).unwrap_or(Fraction::ONE);
     match prng.below(6) {
         0 => value.negated(),
         1 => Fraction::ZERO,
@@ -401,7 +402,8 @@ fn crowd_assumptions(draft: &mut Draft, prng: &mut Prng) -> Option<()> {
     let wanted = prng.from(63, 66) as usize;
     let used = 64 - draft.assumptions_left();
     for number in used..wanted {
-        let row = Row { name: format!("a{number}"), sense: Sense::Less, right: Fraction::ZERO, left: Left::Terms(Vec::new()) };
+        let row =
+            Row { name: format!("a{number}"), sense: Sense::Less, right: Fraction::ZERO, left: Left::Terms(Vec::new()) };
         draft.rows.push(row);
         draft.derivations.push(Derivation { reason: Reason::Asm, last: None });
     }
@@ -421,20 +423,101 @@ pub fn crowd_solutions(draft: &mut Draft, prng: &mut Prng) {
 
 /// Tokens that stand near the edges of the rules.
 const EDGE_TOKENS: [&str; 74] = [
-    "VER", "1.0", "1.00", "VAR", "INT", "OBJ", "CON", "RTP", "SOL", "DER", "min", "max", "E", "L", "G", "infeas", "range", "inf",
-    "-inf", "+inf", "asm", "lin", "rnd", "uns", "sol", "{", "}", "{}", "{lin", "-1", "-01", "-0", "-0.0", "0", "00", "1", "2",
-    "256", "257", "1024", "1025", "64", "65", "65535", "65536", "18446744073709551616", "99999999999999999999999999999",
-    "2147483647", "2147483648", "-2147483648", "4294967294/2", "0.0000000005", "0.0000000001", "1/2147483647", "1/2147483648",
-    "999999999999999999/999999999999999999", "9999999999999999999/9999999999999999999", "0/1000000000000000000",
-    "0.000003814697265625", "1.5-101", "1/0", "1.5E-101", ".5", "5.", "+5", "1/-2", "1/2/3", "1.2.3", "--1", "1e3", "e", "g",
-    "\u{7f}", "\u{e9}",
+    "VER",
+    "1.0",
+    "1.00",
+    "VAR",
+    "INT",
+    "OBJ",
+    "CON",
+    "RTP",
+    "SOL",
+    "DER",
+    "min",
+    "max",
+    "E",
+    "L",
+    "G",
+    "infeas",
+    "range",
+    "inf",
+    "-inf",
+    "+inf",
+    "asm",
+    "lin",
+    "rnd",
+    "uns",
+    "sol",
+    "{",
+    "}",
+    "{}",
+    "{lin",
+    "-1",
+    "-01",
+    "-0",
+    "-0.0",
+    "0",
+    "00",
+    "1",
+    "2",
+    "256",
+    "257",
+    "1024",
+    "1025",
+    "64",
+    "65",
+    "65535",
+    "65536",
+    "18446744073709551616",
+    "99999999999999999999999999999",
+    "2147483647",
+    "2147483648",
+    "-2147483648",
+    "4294967294/2",
+    "0.0000000005",
+    "0.0000000001",
+    "1/2147483647",
+    "1/2147483648",
+    "999999999999999999/999999999999999999",
+    "9999999999999999999/9999999999999999999",
+    "0/1000000000000000000",
+    "0.000003814697265625",
+    "1.5-101",
+    "1/0",
+    "1.5E-101",
+    ".5",
+    "5.",
+    "+5",
+    "1/-2",
+    "1/2/3",
+    "1.2.3",
+    "--1",
+    "1e3",
+    "e",
+    "g",
+    "\u{7f}",
+    "\u{e9}",
 ];
 
 /// Values on either side of the limits: 7 or just taken.
 const EDGE_VALUES: [&str; 18] = [
-    "2147483647", "2147483648", "-2147483647", "-2147483648", "4294967294/2", "4294967296/2", "1/2147483647", "1/2147483648",
-    "0.0000000005", "0.0000000001", "123456789.5", "1234567890.5", "999999999999999999/999999999999999999",
-    "1000000000000000000/1000000000000000000", "0/1000000000000000000", "0.0000000000000000001", "00000000000000000000000001",
+    "2147483647",
+    "2147483648",
+    "-2147483647",
+    "-2147483648",
+    "4294967294/2",
+    "4294967296/2",
+    "1/2147483647",
+    "1/2147483648",
+    "0.0000000005",
+    "0.0000000001",
+    "123456789.5",
+    "1234567890.5",
+    "999999999999999999/999999999999999999",
+    "1000000000000000000/1000000000000000000",
+    "0/1000000000000000000",
+    "0.0000000000000000001",
+    "00000000000000000000000001",
     "1.50000000000000000000000000",
 ];
 
@@ -470,7 +553,12 @@ pub fn damage_tokens(tokens: &mut Vec<Token>, prng: &mut Prng) {
         10 | 11 => alter(tokens, Kind::Value, prng),
         12 | 13 => replace(tokens, Kind::Value, prng.pick(&EDGE_VALUES).as_bytes(), prng),
         14 => alter(tokens, Kind::Last, prng),
-        15 => replace(tokens, Kind::Last, prng.pick(&["-1", "-01", "-0", "-2", "0", "+1", "65535", "00001", "1024"]).as_bytes(), prng),
+        15 => replace(
+            tokens,
+            Kind::Last,
+            prng.pick(&["-1", "-01", "-0", "-2", "0", "+1", "65535", "00001", "1024"]).as_bytes(),
+            prng,
+        ),
         16 => alter(tokens, Kind::RowName, prng),
         17 => alter(tokens, Kind::Sense, prng),
         18 => exceed_count(tokens, prng),

@@ -152,13 +152,18 @@ fn derive_wide_combination(draft: &mut Draft, prng: &mut Prng) {
         })
         .collect();
     let rows: Vec<Constraint> = multipliers.iter().map(|multiplier| draft.constraint(multiplier.row)).collect();
-    let multiplied: Vec<(Fraction, &Constraint)> = multipliers.iter().map(|multiplier| multiplier.value).zip(&rows).collect();
+    let multiplied: Vec<(Fraction, &Constraint)> =
+        multipliers.iter().map(|multiplier| multiplier.value).zip(&rows).collect();
     let combination = combine(draft.variables.len(), &multiplied);
     let is_rounded = prng.chance(30);
     let target = combination
         .map(|combination| if is_rounded { combination.rounded() } else { combination })
         .and_then(|combination| weaken(combination, prng))
-        .unwrap_or_else(|| Constraint { coefficients: values(draft.variables.len(), prng), sense: sense(prng), right: Fraction::ZERO });
+        .unwrap_or_else(|| Constraint {
+            coefficients: values(draft.variables.len(), prng),
+            sense: sense(prng),
+            right: Fraction::ZERO,
+        });
     let reason = if is_rounded { Reason::Rnd(multipliers) } else { Reason::Lin(multipliers) };
     draft.derive(&target, reason, prng);
 }
