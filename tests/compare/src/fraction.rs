@@ -27,6 +27,15 @@ impl Fraction {
         Some(Fraction { num: if num < 0 { -magnitude } else { magnitude }, den: den as i32 })
     }
 
+    /// A whole number, of magnitude at most the limit.
+    pub fn whole(number: i32) -> Fraction {
+        Fraction { num: number, den: 1 }
+    }
+
+    pub fn negated(self) -> Fraction {
+        Fraction { num: -self.num, den: self.den }
+    }
+
     pub fn num(self) -> i32 {
         self.num
     }

@@ -1,0 +1,26 @@
+//! The plain implementation, called as the other one is.
+
+use crate::lent::Lent;
+use crate::other::Answer;
+
+fn answer(result: Result<(), (u8, u32)>) -> Answer {
+    result.err().unwrap_or((0, 0))
+}
+
+pub fn verify(text: &[u8], lent: &mut Lent) -> Answer {
+    let (index, values, rows) = lent.parts();
+    answer(plain::verify(text, index, values, rows))
+}
+
+pub fn read_certificate(text: &[u8], lent: &mut Lent) -> Answer {
+    let (index, values, rows) = lent.parts();
+    answer(plain::read_certificate(text, index, values, rows))
+}
+
+pub fn read_value(token: &[u8]) -> Result<(i32, i32), u8> {
+    plain::read_value(token).map(|value| (value.num(), value.den()))
+}
+
+pub fn show_token(text: &[u8], place: usize) -> usize {
+    plain::show_token(text, place).len()
+}
