@@ -152,11 +152,25 @@ fn heading(name: &str) {
     line(name, ["ours", "plain Rust", "mpq", "ours/plain", "mpq/ours", "checking", "goal"]);
 }
 
-/// With a name, only the cases that have it in their own, to profile one.
+/// Writes the certificates to a folder, one file each.
+fn write(folder: &str, cases: &[Case]) {
+    for case in cases {
+        let name = case.name.replace(", ", "-").replace(' ', "-");
+        std::fs::write(format!("{folder}/{name}.vipr"), &case.text).unwrap();
+    }
+}
+
+/// `--write FOLDER` writes the certificates and measures nothing. With another word, only the cases that have it in their names
+/// are measured.
 fn main() {
     let only = std::env::args().nth(1).unwrap_or_default();
     let to_verify: Vec<Case> = certificates::to_verify();
     let to_read: Vec<Case> = certificates::to_read();
+    if only == "--write" {
+        let folder = std::env::args().nth(2).unwrap_or_else(|| ".".to_string());
+        write(&folder, &to_verify);
+        return write(&folder, &to_read);
+    }
     heading("1. verifying (products)");
     to_verify.iter().filter(|case| case.name.contains(&only)).for_each(verify);
     heading("2. reading alone");

@@ -3,7 +3,8 @@
 use crate::linked::Operation;
 use crate::random::Random;
 
-const COUNT: usize = 1_024;
+/// So many that no processor learns the course of their loops by heart, and so few that all of them stay in its cache.
+const COUNT: usize = 4_096;
 
 type Pair = (i32, i32);
 
