@@ -62,8 +62,7 @@ fn best_objective(certificate: &Certificate) -> Result<Option<Fraction>, Refusal
     let mut best: Option<Fraction> = None;
     for solution in &certificate.solutions {
         let point = dense(certificate.variables, &solution.terms);
-        let objective =
-            left_side(&certificate.objective, &point).ok_or(Refusal::new(RESULT_TOO_WIDE, solution.name))?;
+        let objective = left_side(&certificate.objective, &point).ok_or(Refusal::new(RESULT_TOO_WIDE, solution.name))?;
         best = Some(match (best, certificate.direction) {
             (None, _) => objective,
             (Some(best), Direction::Min) => best.min(objective),
@@ -228,8 +227,7 @@ fn check_row(certificate: &Certificate, row: usize, best: Option<Fraction>) -> R
         }
         Reason::Rnd(multipliers) => {
             let combination = combine(certificate, multipliers, place)?;
-            let rounded =
-                combination.rounded(&certificate.is_integer).ok_or(Refusal::new(CANNOT_BE_ROUNDED, place))?;
+            let rounded = combination.rounded(&certificate.is_integer).ok_or(Refusal::new(CANNOT_BE_ROUNDED, place))?;
             require(rounded.dominates(&target()), NO_DOMINATION, place)
         }
         &Reason::Uns { i1, l1, i2, l2 } => {

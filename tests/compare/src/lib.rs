@@ -19,12 +19,7 @@ pub use text::show_token;
 pub use value::read_value;
 
 /// **Read a certificate**: fills the tables, or gives a reason of 1 to 8 and its line.
-pub fn read_certificate(
-    text: &[u8],
-    index: &mut [u16],
-    values: &mut [i32],
-    rows: &mut [u16],
-) -> Result<(), (u8, u32)> {
+pub fn read_certificate(text: &[u8], index: &mut [u16], values: &mut [i32], rows: &mut [u16]) -> Result<(), (u8, u32)> {
     read(text, index, values, rows).map(|_| ())
 }
 

@@ -348,9 +348,7 @@ impl Reader<'_, '_, '_> {
     /// The pairs of a term list whose count was read.
     fn terms(&mut self, count: usize, variables: usize) -> Result<Vec<Term>, Refusal> {
         let mut seen = Seen::none();
-        (0..count)
-            .map(|_| Ok(Term { variable: self.distinct_index(variables, &mut seen)?, value: self.value()? }))
-            .collect()
+        (0..count).map(|_| Ok(Term { variable: self.distinct_index(variables, &mut seen)?, value: self.value()? })).collect()
     }
 
     fn reason(&mut self, row: usize) -> Result<Reason, Refusal> {
@@ -359,7 +357,9 @@ impl Reader<'_, '_, '_> {
             'a' => self.assumption(token),
             'l' => self.multipliers(row).map(Reason::Lin),
             'r' => self.multipliers(row).map(Reason::Rnd),
-            'u' => Ok(Reason::Uns { i1: self.index(row)?, l1: self.index(row)?, i2: self.index(row)?, l2: self.index(row)? }),
+            'u' => {
+                Ok(Reason::Uns { i1: self.index(row)?, l1: self.index(row)?, i2: self.index(row)?, l2: self.index(row)? })
+            }
             _ => Ok(Reason::Sol),
         }
     }
@@ -377,9 +377,7 @@ impl Reader<'_, '_, '_> {
     fn multipliers(&mut self, row: usize) -> Result<Vec<Multiplier>, Refusal> {
         let mut seen = Seen::none();
         let count = self.count(row)?;
-        (0..count)
-            .map(|_| Ok(Multiplier { row: self.distinct_index(row, &mut seen)?, value: self.value()? }))
-            .collect()
+        (0..count).map(|_| Ok(Multiplier { row: self.distinct_index(row, &mut seen)?, value: self.value()? })).collect()
     }
 
     /// Below m + d, or "exactly `-1`".

@@ -114,7 +114,11 @@ fn reading_refuses() {
 fn lists_have_distinct_indices_and_uns_is_no_list() {
     refused("VER 1.0 VAR 2 x x INT 2 1\n1", 6, 2);
     refused("VER 1.0 VAR 2 x x INT 0 OBJ min 2 1 1\n1 x", 6, 2);
-    refused("VER 1.0 VAR 0 INT 0 OBJ min 0 CON 0 0 RTP infeas SOL 0 DER 2 a L 0 0 { asm } -1\nb L 0 0 { uns 0 0 0 0 } -1", 16, 2);
+    refused(
+        "VER 1.0 VAR 0 INT 0 OBJ min 0 CON 0 0 RTP infeas SOL 0 DER 2 a L 0 0 { asm } -1\nb L 0 0 { uns 0 0 0 0 } -1",
+        16,
+        2,
+    );
 }
 
 #[test]
@@ -147,7 +151,11 @@ fn derived(derivations: &[&str]) -> String {
 #[test]
 fn derivations_refuse() {
     verified(&derived(&["d L 0 OBJ { rnd 1 1 1/2 } -1"]));
-    refused(&derived(&["d L 1 1 0 1 { lin 1 1 1/2 } 3", "e L 0 OBJ { rnd 1 1 1/2 } 0", "f L 0 OBJ { lin 2 0 0 3 0 } 5"]), 11, 4);
+    refused(
+        &derived(&["d L 1 1 0 1 { lin 1 1 1/2 } 3", "e L 0 OBJ { rnd 1 1 1/2 } 0", "f L 0 OBJ { lin 2 0 0 3 0 } 5"]),
+        11,
+        4,
+    );
     refused(&derived(&["d L 1 1 0 1 { lin 1 1 2147483647 } 3"]), 12, 2);
     refused(&derived(&["d L 1 1 0 1 { lin 2 1 2147483647 0 1 } 3"]), 13, 2);
     refused(&derived(&["d E 0 0 { rnd 0 } -1"]), 14, 2);
@@ -173,12 +181,20 @@ fn an_equality_comes_of_signs_and_not_of_cancelling() {
 #[test]
 fn splits() {
     let split = |less: &str, greater: &str| {
-        let derivations = [less, greater, "i1 L 0 OBJ { rnd 2 1 1/2 3 0 } -1", "i2 G 1 0 { lin 2 1 -1/2 4 1 } -1", "u L 0 OBJ { uns 5 3 6 4 } -1"];
+        let derivations = [
+            less,
+            greater,
+            "i1 L 0 OBJ { rnd 2 1 1/2 3 0 } -1",
+            "i2 G 1 0 { lin 2 1 -1/2 4 1 } -1",
+            "u L 0 OBJ { uns 5 3 6 4 } -1",
+        ];
         derived(&derivations)
     };
     // `i2` combines to 0 >= 1/2, an absurdity, which dominates 0 >= 1 as well.
     verified(&split("l1 L 0 1 0 1 { asm } -1", "l2 G 1 1 0 1 { asm } -1"));
-    let fine = |less: &str, greater: &str| split(less, greater).replace("i2 G 1 0 { lin 2 1 -1/2 4 1 }", "i2 L 0 OBJ { rnd 2 1 1/2 4 0 }");
+    let fine = |less: &str, greater: &str| {
+        split(less, greater).replace("i2 G 1 0 { lin 2 1 -1/2 4 1 }", "i2 L 0 OBJ { rnd 2 1 1/2 4 0 }")
+    };
     verified(&fine("l1 L 0 2 0 1 1 0 { asm } -1", "l2 G 1 1 0 1 { asm } -1"));
     verified(&fine("l1 L 0 0 { asm } -1", "l2 G 1 0 { asm } -1"));
     refused(&fine("l1 L 0 1 0 1 { asm } -1", "l2 G 2 1 0 1 { asm } -1"), 16, 6);

@@ -67,7 +67,9 @@ impl Program {
         let greater: Vec<(usize, i32, Constraint)> = rows
             .iter()
             .enumerate()
-            .flat_map(|(row, constraint)| constraint.as_greater().into_iter().map(move |(sign, greater)| (row, sign, greater)))
+            .flat_map(|(row, constraint)| {
+                constraint.as_greater().into_iter().map(move |(sign, greater)| (row, sign, greater))
+            })
             .collect();
         let constraints: Vec<Constraint> = greater.iter().map(|(_, _, constraint)| constraint.clone()).collect();
         let as_given = |multipliers: Vec<Fraction>| {
@@ -117,7 +119,12 @@ fn small_value(prng: &mut Prng, nonzero: usize, is_fractional: bool) -> Fraction
 pub enum Tree {
     Leaf,
     /// coefficients x <= at, or coefficients x >= at + 1.
-    Split { coefficients: Vec<Fraction>, at: Fraction, below: Box<Tree>, above: Box<Tree> },
+    Split {
+        coefficients: Vec<Fraction>,
+        at: Fraction,
+        below: Box<Tree>,
+        above: Box<Tree>,
+    },
 }
 
 /// What a search found: the tree, the points that improved on those before, and the least objective of all (negated under max).

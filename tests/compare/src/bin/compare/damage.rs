@@ -28,7 +28,8 @@ pub fn wide_value(prng: &mut Prng) -> Fraction {
 }
 
 fn other_value(value: Fraction, prng: &mut Prng) -> Fraction {
-    let step = Fraction::new(i64::from(*prng.pick(&[-2, -1, 1, 2])), *prng.pick(&[1, 1, 1, 2, 1000])).unwrap_or(Fraction::ONE);
+    let step =
+        Fraction::new(i64::from(*prng.pick(&[-2, -1, 1, 2])), *prng.pick(&[1, 1, 1, 2, 1000])).unwrap_or(Fraction::ONE);
     match prng.below(6) {
         0 => value.negated(),
         1 => Fraction::ZERO,
@@ -46,7 +47,7 @@ fn pick_mut<'a, T>(items: &'a mut [T], prng: &mut Prng) -> Option<&'a mut T> {
 
 type DraftDamage = fn(&mut Draft, &mut Prng) -> Option<()>;
 
-const DRAFT_DAMAGE: [DraftDamage; 29] = [
+const DRAFT_DAMAGE: [DraftDamage; 30] = [
     spend_row,
     spend_row,
     drop_last_row,
@@ -55,6 +56,7 @@ const DRAFT_DAMAGE: [DraftDamage; 29] = [
     move_split,
     split_on_given_row,
     lean_on_assumption,
+    round_equality,
     assume_row,
     break_solution,
     break_integrality,
@@ -132,12 +134,13 @@ fn exchange_split(draft: &mut Draft, prng: &mut Prng) -> Option<()> {
     let reason = pick_reason(draft, |reason| matches!(reason, Reason::Uns { .. }), prng)?;
     let &mut Reason::Uns { i1, l1, i2, l2 } = reason else { return None };
     let below = |row: usize, prng: &mut Prng| prng.below((row + 1).min(rows));
-    *reason = match prng.below(7) {
+    *reason = match prng.below(8) {
         0..=1 => Reason::Uns { i1, l1: l2, i2, l2: l1 },
         2 => Reason::Uns { i1, l1, i2, l2: l1 },
         3 => Reason::Uns { i1: below(i1, prng), l1, i2, l2 },
         4 => Reason::Uns { i1, l1: below(l1, prng), i2, l2 },
         5 => Reason::Uns { i1, l1, i2, l2: below(l2, prng) },
+        6 => Reason::Uns { i1, l1, i2: below(i2, prng), l2 },
         _ => Reason::Uns { i1: i2, l1, i2: i2, l2 },
     };
     Some(())
@@ -206,6 +209,18 @@ fn lean_on_assumption(draft: &mut Draft, _: &mut Prng) -> Option<()> {
         Reason::Asm | Reason::Sol => return None,
     }
     draft.derivations[assumed].last = None;
+    Some(())
+}
+
+/// An equality is rounded, also an absurd one.
+fn round_equality(draft: &mut Draft, prng: &mut Prng) -> Option<()> {
+    let right = Fraction::whole(prng.from(0, 1));
+    let row = |name: &str| Row { name: name.to_string(), sense: Sense::Equal, right, left: Left::Terms(Vec::new()) };
+    let multiplier = Multiplier { row: draft.rows.len(), value: Fraction::ONE };
+    draft.rows.extend([row("equality"), row("rounded")]);
+    for reason in [Reason::Asm, Reason::Rnd(vec![multiplier])] {
+        draft.derivations.push(Derivation { reason, last: None });
+    }
     Some(())
 }
 
@@ -401,7 +416,8 @@ fn crowd_assumptions(draft: &mut Draft, prng: &mut Prng) -> Option<()> {
     let wanted = prng.from(63, 66) as usize;
     let used = 64 - draft.assumptions_left();
     for number in used..wanted {
-        let row = Row { name: format!("a{number}"), sense: Sense::Less, right: Fraction::ZERO, left: Left::Terms(Vec::new()) };
+        let row =
+            Row { name: format!("a{number}"), sense: Sense::Less, right: Fraction::ZERO, left: Left::Terms(Vec::new()) };
         draft.rows.push(row);
         draft.derivations.push(Derivation { reason: Reason::Asm, last: None });
     }
@@ -420,22 +436,24 @@ pub fn crowd_solutions(draft: &mut Draft, prng: &mut Prng) {
 // Tokens
 
 /// Tokens that stand near the edges of the rules.
-const EDGE_TOKENS: [&str; 74] = [
-    "VER", "1.0", "1.00", "VAR", "INT", "OBJ", "CON", "RTP", "SOL", "DER", "min", "max", "E", "L", "G", "infeas", "range", "inf",
-    "-inf", "+inf", "asm", "lin", "rnd", "uns", "sol", "{", "}", "{}", "{lin", "-1", "-01", "-0", "-0.0", "0", "00", "1", "2",
-    "256", "257", "1024", "1025", "64", "65", "65535", "65536", "18446744073709551616", "99999999999999999999999999999",
-    "2147483647", "2147483648", "-2147483648", "4294967294/2", "0.0000000005", "0.0000000001", "1/2147483647", "1/2147483648",
-    "999999999999999999/999999999999999999", "9999999999999999999/9999999999999999999", "0/1000000000000000000",
-    "0.000003814697265625", "1.5-101", "1/0", "1.5E-101", ".5", "5.", "+5", "1/-2", "1/2/3", "1.2.3", "--1", "1e3", "e", "g",
-    "\u{7f}", "\u{e9}",
+#[rustfmt::skip]
+const EDGE_TOKENS: [&str; 76] = [
+    "VER", "1.0", "1.00", "VAR", "INT", "OBJ", "CON", "RTP", "SOL", "DER", "min", "max", "E", "L", "G", "infeas", "range",
+    "inf", "-inf", "+inf", "asm", "lin", "rnd", "uns", "sol", "{", "}", "{}", "{lin", "-1", "-01", "-0", "-0.0", "0",
+    "00", "1", "2", "256", "257", "1024", "1025", "64", "65", "65535", "65536", "18446744073709551616",
+    "99999999999999999999999999999", "2147483647", "2147483648", "-2147483648", "4294967294/2", "0.0000000005",
+    "0.0000000001", "1/2147483647", "1/2147483648", "999999999999999999/999999999999999999",
+    "9999999999999999999/9999999999999999999", "0/1000000000000000000", "0.000003814697265625", "1.5-101", "1/0", "1234567890123456789012/0", "1/0000000000000000000000",
+    "1.5E-101", ".5", "5.", "+5", "1/-2", "1/2/3", "1.2.3", "--1", "1e3", "e", "g", "\u{7f}", "\u{e9}",
 ];
 
 /// Values on either side of the limits: 7 or just taken.
+#[rustfmt::skip]
 const EDGE_VALUES: [&str; 18] = [
-    "2147483647", "2147483648", "-2147483647", "-2147483648", "4294967294/2", "4294967296/2", "1/2147483647", "1/2147483648",
-    "0.0000000005", "0.0000000001", "123456789.5", "1234567890.5", "999999999999999999/999999999999999999",
-    "1000000000000000000/1000000000000000000", "0/1000000000000000000", "0.0000000000000000001", "00000000000000000000000001",
-    "1.50000000000000000000000000",
+    "2147483647", "2147483648", "-2147483647", "-2147483648", "4294967294/2", "4294967296/2", "1/2147483647",
+    "1/2147483648", "0.0000000005", "0.0000000001", "123456789.5", "1234567890.5",
+    "999999999999999999/999999999999999999", "1000000000000000000/1000000000000000000", "0/1000000000000000000",
+    "0.0000000000000000001", "00000000000000000000000001", "1.50000000000000000000000000",
 ];
 
 /// A token from the edges of the rules, or of random bytes of the alphabet of values.
@@ -470,7 +488,12 @@ pub fn damage_tokens(tokens: &mut Vec<Token>, prng: &mut Prng) {
         10 | 11 => alter(tokens, Kind::Value, prng),
         12 | 13 => replace(tokens, Kind::Value, prng.pick(&EDGE_VALUES).as_bytes(), prng),
         14 => alter(tokens, Kind::Last, prng),
-        15 => replace(tokens, Kind::Last, prng.pick(&["-1", "-01", "-0", "-2", "0", "+1", "65535", "00001", "1024"]).as_bytes(), prng),
+        15 => replace(
+            tokens,
+            Kind::Last,
+            prng.pick(&["-1", "-01", "-0", "-2", "0", "+1", "65535", "00001", "1024"]).as_bytes(),
+            prng,
+        ),
         16 => alter(tokens, Kind::RowName, prng),
         17 => alter(tokens, Kind::Sense, prng),
         18 => exceed_count(tokens, prng),

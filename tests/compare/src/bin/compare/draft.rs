@@ -142,7 +142,9 @@ impl Draft {
     pub fn named_rows(reason: &Reason) -> Vec<usize> {
         match reason {
             Reason::Asm | Reason::Sol => Vec::new(),
-            Reason::Lin(multipliers) | Reason::Rnd(multipliers) => multipliers.iter().map(|multiplier| multiplier.row).collect(),
+            Reason::Lin(multipliers) | Reason::Rnd(multipliers) => {
+                multipliers.iter().map(|multiplier| multiplier.row).collect()
+            }
             &Reason::Uns { i1, l1, i2, l2 } => vec![i1, l1, i2, l2],
         }
     }

@@ -53,8 +53,11 @@ fn detour(prng: &mut Prng) -> Draft {
         for row in &mut draft.rows {
             (row.sense, row.right) = (Sense::Less, Fraction::whole(2147483647));
         }
-        let terms = (0..variables).map(|variable| Term { variable, value: Fraction::whole(*prng.pick(&[1, 1, -1])) });
-        draft.solutions.push(Solution { name: "s".to_string(), terms: terms.collect() });
+        for _ in 0..prng.from(1, 3) {
+            let value = |prng: &mut Prng| Fraction::whole(*prng.pick(&[1, 1, -1]));
+            let terms = (0..variables).map(|variable| Term { variable, value: value(prng) }).collect();
+            draft.solutions.push(Solution { name: "s".to_string(), terms });
+        }
         draft.objective = draft.rows.pop().map_or(Vec::new(), |row| draft.terms(&row).to_vec());
     } else {
         let multipliers = prng
@@ -152,13 +155,18 @@ fn derive_wide_combination(draft: &mut Draft, prng: &mut Prng) {
         })
         .collect();
     let rows: Vec<Constraint> = multipliers.iter().map(|multiplier| draft.constraint(multiplier.row)).collect();
-    let multiplied: Vec<(Fraction, &Constraint)> = multipliers.iter().map(|multiplier| multiplier.value).zip(&rows).collect();
+    let multiplied: Vec<(Fraction, &Constraint)> =
+        multipliers.iter().map(|multiplier| multiplier.value).zip(&rows).collect();
     let combination = combine(draft.variables.len(), &multiplied);
     let is_rounded = prng.chance(30);
     let target = combination
         .map(|combination| if is_rounded { combination.rounded() } else { combination })
         .and_then(|combination| weaken(combination, prng))
-        .unwrap_or_else(|| Constraint { coefficients: values(draft.variables.len(), prng), sense: sense(prng), right: Fraction::ZERO });
+        .unwrap_or_else(|| Constraint {
+            coefficients: values(draft.variables.len(), prng),
+            sense: sense(prng),
+            right: Fraction::ZERO,
+        });
     let reason = if is_rounded { Reason::Rnd(multipliers) } else { Reason::Lin(multipliers) };
     draft.derive(&target, reason, prng);
 }
@@ -168,13 +176,19 @@ fn derive_wide_combination(draft: &mut Draft, prng: &mut Prng) {
 /// A certificate with one count at its limit, sometimes one beyond. It verifies if none is beyond.
 pub fn full(prng: &mut Prng) -> (Draft, bool) {
     let beyond = usize::from(prng.chance(30));
-    let draft = match prng.below(5) {
+    let draft = match prng.below(6) {
         0 => with_counts(MOST_VARIABLES + beyond, 1, 1, 1, prng),
         1 => with_counts(1, MOST_ROWS + beyond, 0, 0, prng),
         2 => with_counts(1, 1, MOST_SOLUTIONS + beyond, 1, prng),
         3 => {
             let given = prng.below(MOST_ROWS);
             with_counts(1, given, 1, MOST_ROWS + beyond - given, prng)
+        }
+        4 => {
+            let given = prng.below(3);
+            let mut draft = with_counts(1, given, 1, 1, prng);
+            draft.bounds = given + beyond;
+            draft
         }
         _ => with_assumptions(MOST_ASSUMPTIONS + beyond, prng),
     };

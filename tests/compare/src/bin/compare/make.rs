@@ -8,8 +8,8 @@ use crate::branch::{search, Found, Program};
 use crate::constraint::Constraint;
 use crate::draft::{Draft, Solution};
 use crate::grow::{add_given_row, derive_row};
-use crate::proof::{place, place_values, Proved, Prover};
 use crate::prng::Prng;
+use crate::proof::{place, place_values, Proved, Prover};
 
 /// How large a certificate becomes.
 #[derive(Clone, Copy)]
@@ -28,12 +28,49 @@ impl Size {
     pub fn random(prng: &mut Prng) -> Size {
         let mut upto = |most: usize| prng.below(most + 1);
         match upto(99) {
-            0..=39 => Size { variables: upto(1), solutions: 1, given_rows: upto(1), derived_rows: 0, terms: 2, bytes: 2_000 },
-            40..=79 => Size { variables: upto(5), solutions: 3, given_rows: upto(6), derived_rows: upto(12), terms: 4, bytes: 6_000 },
-            80..=93 => Size { variables: upto(40), solutions: 8, given_rows: upto(30), derived_rows: upto(80), terms: 12, bytes: 16_000 },
-            94..=96 => Size { variables: MOST_VARIABLES, solutions: MOST_SOLUTIONS, given_rows: upto(60), derived_rows: upto(200), terms: 60, bytes: 29_000 },
-            97..=98 => Size { variables: upto(MOST_VARIABLES), solutions: 20, given_rows: upto(300), derived_rows: MOST_ROWS, terms: 6, bytes: 31_000 },
-            _ => Size { variables: 0, solutions: 1, given_rows: upto(MOST_ROWS), derived_rows: MOST_ROWS, terms: 1, bytes: 31_000 },
+            0..=39 => {
+                Size { variables: upto(1), solutions: 1, given_rows: upto(1), derived_rows: 0, terms: 2, bytes: 2_000 }
+            }
+            40..=79 => Size {
+                variables: upto(5),
+                solutions: 3,
+                given_rows: upto(6),
+                derived_rows: upto(12),
+                terms: 4,
+                bytes: 6_000,
+            },
+            80..=93 => Size {
+                variables: upto(40),
+                solutions: 8,
+                given_rows: upto(30),
+                derived_rows: upto(80),
+                terms: 12,
+                bytes: 16_000,
+            },
+            94..=96 => Size {
+                variables: MOST_VARIABLES,
+                solutions: MOST_SOLUTIONS,
+                given_rows: upto(60),
+                derived_rows: upto(200),
+                terms: 60,
+                bytes: 29_000,
+            },
+            97..=98 => Size {
+                variables: upto(MOST_VARIABLES),
+                solutions: 20,
+                given_rows: upto(300),
+                derived_rows: MOST_ROWS,
+                terms: 6,
+                bytes: 31_000,
+            },
+            _ => Size {
+                variables: 0,
+                solutions: 1,
+                given_rows: upto(MOST_ROWS),
+                derived_rows: MOST_ROWS,
+                terms: 1,
+                bytes: 31_000,
+            },
         }
     }
 }

@@ -38,17 +38,8 @@ mod linked {
         ) -> u8;
     }
 
-    type OnTables = unsafe extern "C" fn(
-        *const u8,
-        usize,
-        *mut u16,
-        usize,
-        *mut i32,
-        usize,
-        *mut u16,
-        usize,
-        *mut u32,
-    ) -> u8;
+    type OnTables =
+        unsafe extern "C" fn(*const u8, usize, *mut u16, usize, *mut i32, usize, *mut u16, usize, *mut u32) -> u8;
 
     fn call(function: OnTables, text: &[u8], lent: &mut Lent) -> Answer {
         let mut line = u32::MAX;

@@ -94,9 +94,9 @@ impl Prover<'_> {
 
     /// An equality cannot be rounded (01), and only equalities may have been combined.
     fn rounds(&self, multipliers: &[Multiplier]) -> bool {
-        multipliers.iter().any(|multiplier| {
-            !multiplier.value.is_zero() && self.draft.rows[multiplier.row].sense != Sense::Equal
-        })
+        multipliers
+            .iter()
+            .any(|multiplier| !multiplier.value.is_zero() && self.draft.rows[multiplier.row].sense != Sense::Equal)
     }
 
     /// The nonzero multipliers, and now and then a zero one; negated they give the same constraint the other way round.
@@ -159,6 +159,7 @@ pub fn place_values(values: &[Fraction], places: &[usize], variables: usize) -> 
 
 fn absurdity(variables: usize, prng: &mut Prng) -> Constraint {
     let amount = prng.from(1, 5);
-    let (sense, right) = *prng.pick(&[(Sense::Greater, amount), (Sense::Greater, 1), (Sense::Less, -amount), (Sense::Equal, -amount)]);
+    let (sense, right) =
+        *prng.pick(&[(Sense::Greater, amount), (Sense::Greater, 1), (Sense::Less, -amount), (Sense::Equal, -amount)]);
     Constraint { coefficients: vec![Fraction::ZERO; variables], sense, right: Fraction::whole(right) }
 }

@@ -51,8 +51,7 @@ impl Speller<'_> {
     }
 
     fn value(&mut self, value: Fraction) {
-        let spelled =
-            if self.prng.chance(self.oddness) { odd_value(value, self.prng) } else { plain_value(value) };
+        let spelled = if self.prng.chance(self.oddness) { odd_value(value, self.prng) } else { plain_value(value) };
         self.add(Kind::Value, &spelled);
     }
 
@@ -188,7 +187,11 @@ fn odd_value(value: Fraction, prng: &mut Prng) -> String {
         (0 | 1, Some(places)) => {
             let scale = 10u64.pow(places);
             let (whole, rest) = (num * (scale / den) / scale, num * (scale / den) % scale);
-            let fill = if places == 0 { format!("0{trailing}") } else { format!("{rest:0width$}{trailing}", width = places as usize) };
+            let fill = if places == 0 {
+                format!("0{trailing}")
+            } else {
+                format!("{rest:0width$}{trailing}", width = places as usize)
+            };
             format!("{sign}{leading}{whole}.{fill}")
         }
         _ => {
