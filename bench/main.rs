@@ -1,7 +1,7 @@
 //! Measures the library for C beside the plain Rust implementation and beside GMP's mpq. `bench/run` builds and runs it.
 //!
-//! Each measurement is of processor time, repeated three times; within a repetition the three are run one after another for
-//! each case, so that what else the machine does falls on all of them. The medians are printed, and their ratios.
+//! Each measurement is of processor time, repeated three times. Within a repetition those that are compared are run by turns,
+//! in slices, so that what else the machine does falls on all of them. The medians are printed, and their ratios.
 
 mod certificates;
 mod linked;
@@ -13,8 +13,10 @@ use linked::{Answer, Operands, Tables};
 use operands::Kind;
 
 const REPETITIONS: usize = 3;
-/// Seconds that a measurement takes at least.
-const LEAST: f64 = 0.1;
+/// Slices of a repetition.
+const SLICES: u32 = 20;
+/// Seconds that a measurement takes at least, all slices together.
+const LEAST: f64 = 0.2;
 
 /// The goals: ours takes at most so many times as long as plain Rust, and is at least so many times as fast as mpq.
 const MOST_OF_PLAIN: f64 = 1.5;
@@ -26,7 +28,7 @@ const FRACTIONS_OF_MPQ: f64 = 1.0;
 fn runs(work: &mut dyn FnMut()) -> u32 {
     let mut count = 1;
     loop {
-        let time = measure(work, count) * f64::from(count);
+        let time = measure(work, count);
         if time > LEAST / 4.0 {
             return (f64::from(count) * LEAST / time).ceil() as u32;
         }
@@ -34,22 +36,25 @@ fn runs(work: &mut dyn FnMut()) -> u32 {
     }
 }
 
-/// Seconds for one run.
+/// Seconds for so many runs.
 fn measure(work: &mut dyn FnMut(), count: u32) -> f64 {
     let start = linked::seconds();
     for _ in 0..count {
         work();
     }
-    (linked::seconds() - start) / f64::from(count)
+    linked::seconds() - start
 }
 
-/// The median seconds of each work, run by turns.
+/// The median seconds of one run of each work; they are run by turns.
 fn medians<const WORKS: usize>(mut works: [&mut dyn FnMut(); WORKS]) -> [f64; WORKS] {
     let counts = works.each_mut().map(|work| runs(work));
     let mut times = [[0.0; REPETITIONS]; WORKS];
     for repetition in 0..REPETITIONS {
-        for (i, work) in works.iter_mut().enumerate() {
-            times[i][repetition] = measure(work, counts[i]);
+        for slice in 0..SLICES {
+            for (i, work) in works.iter_mut().enumerate() {
+                let count = counts[i] * (slice + 1) / SLICES - counts[i] * slice / SLICES;
+                times[i][repetition] += measure(work, count) / f64::from(counts[i]);
+            }
         }
     }
     times.map(|mut all| {
