@@ -54,10 +54,6 @@ stops v x y e f =
     let g : refused _ _ ≡ x = sym (ap verdictSays e) ∙ f in
     f ∙ sym g ∙ ap (λ (z : rules.Verdict). z andThen y) g
 
--- where the first has nothing to refuse, it is the second's
-pub goes-on : (v : Verdict) (x y : rules.Verdict) → v ≡ Fine → verdictSays v ≡ x → y ≡ x andThen y
-goes-on v x y e f = ap (λ (z : rules.Verdict). z andThen y) (sym (ap verdictSays e) ∙ f)
-
 pub solutions-refused : (tree : Tree) {v : Verdict} {reason : Refusal} {place : ℕ} → v ≡ Refused reason place → verdictSays v ≡ each (checkSolution tree) (tree .solutions .solutions) → verdictSays v ≡ checkOf tree
 unfolding checkOf
 solutions-refused tree {v} e f = stops v (each (checkSolution tree) (tree .solutions .solutions)) _ e f

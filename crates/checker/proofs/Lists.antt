@@ -3,13 +3,12 @@
 use mathlib.Core.Path.{_≡_, refl, sym, ap, _∙_}
 use mathlib.Core.Bool.{Bool, _||_, or-false, or-assoc}
 use mathlib.Core.List.{List, [], _∷_, _++_, append-assoc, append-nil}
-use Prim.Native.Nat.{ℕ, suc, _+_, _≤_, _<_}
+use Prim.Native.Nat.{ℕ, _+_, _≤_, _<_}
 use native.Mathlib.Numerals.{add-one}
-use native.Mathlib.Omega.{arith}
 use lib.ListN.{length, drop, getD, drop-of-length-le}
 use lib.Seq.{drop-cons}
 use Rattle.rules.specs.Tests.{someOf}
-use Rattle.rules.specs.Result.{Result, done, refused, Verdict, fine, bind, _andThen_, each, eachFrom, collect}
+use Rattle.rules.specs.Result.{Result, done, refused, Verdict, fine, bind, _andThen_, each, collect}
 
 pub drop-next : {A : Type 0} (xs : List A) (r : ℕ) (d : A) → r < length xs → drop r xs ≡ getD xs r d ∷ drop (r + 1) xs
 drop-next xs r d h = rw (add-one, drop-cons xs r d)
@@ -22,19 +21,6 @@ module _ {A : Type 0} (check : A → Verdict) (xs : List A) (d : A) (r : ℕ) wh
 
   pub each-end : length xs ≤ r → each check (drop r xs) ≡ fine
   each-end h = ap (each check) (drop-of-length-le xs h)
-
--- the same where the first of the list has the number n
-module _ {A : Type 0} (check : ℕ → A → Verdict) (n : ℕ) (xs : List A) (d : A) (r : ℕ) where
-  pub each-from-is : r < length xs → {v : Verdict} → check (n + r) (getD xs r d) ≡ v
-      → eachFrom check (n + r) (drop r xs) ≡ (v andThen eachFrom check (n + (r + 1)) (drop (r + 1) xs))
-  each-from-is h e =
-      let k : suc (n + r) ≡ n + (r + 1) = omega arith in
-      ap (eachFrom check (n + r)) (drop-next xs r d h)
-      ∙ ap (λ (i : ℕ). check (n + r) (getD xs r d) andThen eachFrom check i (drop (r + 1) xs)) k
-      ∙ ap (λ (v : Verdict). v andThen eachFrom check (n + (r + 1)) (drop (r + 1) xs)) e
-
-  pub each-from-end : length xs ≤ r → eachFrom check (n + r) (drop r xs) ≡ fine
-  each-from-end h = ap (eachFrom check (n + r)) (drop-of-length-le xs h)
 
 -- ---- what comes of each of a list: these of those before number r, then of the rest
 

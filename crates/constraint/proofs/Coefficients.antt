@@ -34,14 +34,6 @@ module _ (cs : List Fraction) (all : length cs ≡ 256) where
   pub read-at : (v : ℕ) → v < 256 → getD cs v noFraction ≡ coefficientsOf cs v
   read-at v h = same-read cs noFraction zeroF {n = v} (omega arith)
 
-  -- a coefficient that is stored
-  pub set-at : (v : ℕ) (f : Fraction) → v < 256 → coefficientsOf (set cs v f) ≡ withCoefficient v f (coefficientsOf cs)
-  set-at v f h = λ i w. each w (eqb v w) refl i
-    where
-      each : (w : ℕ) (t : Bool) → eqb v w ≡ t → coefficientsOf (set cs v f) w ≡ cond t f (coefficientsOf cs w)
-      each w true e = subst (λ (u : ℕ). coefficientsOf (set cs v f) u ≡ f) (eqb-true v w e) (getD-set-same cs v f zeroF (omega arith))
-      each w false e = getD-set-other cs v w f zeroF (λ h. eqb-false v w e (sym h))
-
   beyond : (v : ℕ) → 256 ≤ v → coefficientsOf cs v ≡ zeroF
   beyond v h = List·getD-eq-default cs zeroF {n = v} (omega arith)
 

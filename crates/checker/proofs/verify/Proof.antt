@@ -1,94 +1,71 @@
+-- `checker::verify` meets its contract: a refusal of reading is passed on; what was read is checked, and the line of a refusal is counted.
 use borrow.Author.Needs.{needs}
 use Rattle.checker.proofs.verify.Statement.{statement}
 use Rattle.checker.proofs.verify.Tie as tie
-use Rattle.checker.proofs.verify.Reads as reads
-use Rattle.checker.proofs.verify.Lts as lts
-use Rattle.checker.proofs.checking.check.Reads as check-reads
 use mathlib.Core.Path.{refl, ap}
 use Rattle.grammar.specs.Refusals.{refusalNumber}
 use Rattle.checker.specs.Promise.{refuses}
 use Rattle.checker.proofs.Verifying.{refused-verified, certificate-there, checked-verified}
-use Rattle.reader.proofs.read_certificate.Reads as read-certificate-reads
-use Rattle.text.proofs.line_of.Reads as line-of-reads
 
--- src/lib.rt:38:11
 read-certificate-requires : tie.Need-read-certificate-requires
 read-certificate-requires c κs = search needs
 
--- src/lib.rt:39:26
 enum-known-reason : tie.Need-enum-known-reason
 enum-known-reason c = search needs
 
--- src/lib.rt:40:24
 enum-known-places : tie.Need-enum-known-places
 enum-known-places c = search needs
 
--- src/lib.rt:41:19
 check-requires : tie.Need-check-requires
 check-requires c κs =
     let w = c .before .before .before .before .before .before .before .before .before .before .before .read-certificate in
     certificate-there (w .kept .1 .0) (w .kept .1 .1 .0) (w .kept .1 .1 .1 .0) _ (w .ensures) (c .before .before .before .before .places .given .1)
 
--- src/lib.rt:42:34
 enum-told : tie.Need-enum-told
 enum-told c = search needs
 
--- src/lib.rt:43:34
 enum-known-reason-2 : tie.Need-enum-known-reason-2
 enum-known-reason-2 c = search needs
 
--- src/lib.rt:44:51
 line-of-requires : tie.Need-line-of-requires
 line-of-requires c κs = search needs
 
--- src/lib.rt:35:1
 same-length : tie.Need-same-length
 same-length c = search needs
 
--- src/lib.rt:35:1
 same-length-2 : tie.Need-same-length-2
 same-length-2 c = search needs
 
--- src/lib.rt:35:1
 same-length-3 : tie.Need-same-length-3
 same-length-3 c = search needs
 
--- src/lib.rt:35:1
 returns : tie.Need-returns
 returns c = refused-verified _ _ (c .before .before .before .before .before .before .before .before .read-certificate .ensures) (c .before .reason .given .1)
 
--- src/lib.rt:35:1
 same-length-4 : tie.Need-same-length-4
 same-length-4 c = search needs
 
--- src/lib.rt:35:1
 same-length-5 : tie.Need-same-length-5
 same-length-5 c = search needs
 
--- src/lib.rt:35:1
 same-length-6 : tie.Need-same-length-6
 same-length-6 c = search needs
 
--- src/lib.rt:35:1
 returns-2 : tie.Need-returns-2
 returns-2 c =
     let w = c .before .before .before .before .before .before .before .before .before .before .before .before .before .before .read-certificate in
     checked-verified (w .kept .1 .0) (w .kept .1 .1 .0) (w .kept .1 .1 .1 .0) _ (w .ensures) (c .before .before .before .before .before .before .before .places .given .1)
     _ (c .before .before .check .ensures) (c .enum-told .given .1) refl
 
--- src/lib.rt:35:1
 same-length-7 : tie.Need-same-length-7
 same-length-7 c = search needs
 
--- src/lib.rt:35:1
 same-length-8 : tie.Need-same-length-8
 same-length-8 c = search needs
 
--- src/lib.rt:35:1
 same-length-9 : tie.Need-same-length-9
 same-length-9 c = search needs
 
--- src/lib.rt:35:1
 returns-3 : tie.Need-returns-3
 returns-3 c =
     let w = c .before .before .before .before .before .before .before .before .before .before .before .before .before .before .before .before .read-certificate in

@@ -1,54 +1,39 @@
+-- `checker::checking::check` meets its contract: the first refusal of the parts, in document 01's order, is the refusal of the whole.
 use borrow.Author.Needs.{needs}
 use mathlib.Core.Path.{ap}
 use Rattle.reader.specs.declared.Places.{Places}
 use Rattle.checker.proofs.InOrder.{the-frame, frame-there, standing, solutions-refused, passed, wide-is, found-is, too-wide, not-reached, is-reached}
 use Rattle.checker.proofs.checking.check.Statement.{statement}
 use Rattle.checker.proofs.checking.check.Tie as tie
-use Rattle.checker.proofs.checking.check.Reads as reads
-use Rattle.checker.proofs.checking.check.Lts as lts
-use Rattle.checker.proofs.checking.check_proof.Reads as check-proof-reads
-use Rattle.checker.proofs.checking.frame_of.Reads as frame-of-reads
-use Rattle.checker.proofs.claims.end_to_reach.Reads as end-to-reach-reads
-use Rattle.checker.proofs.objectives.objectives_of.Reads as objectives-of-reads
-use Rattle.checker.proofs.solutions.check_solutions.Reads as check-solutions-reads
 
--- src/checking.rt:104:9
 frame-of-requires : tie.Need-frame-of-requires
 frame-of-requires c κs = frame-there (c .before .before .pre)
 
--- src/checking.rt:105:9
 check-solutions-requires : tie.Need-check-solutions-requires
 check-solutions-requires c κs = standing (c .frame-of .ensures) (c .before .before .before .pre)
 
 enum-told : tie.Need-enum-told
 enum-told c = search needs
 
--- src/checking.rt:107:9
 enum-told-2 : tie.Need-enum-told-2
 enum-told-2 c = search needs
 
--- src/checking.rt:107:9
 returns : tie.Need-returns
 returns c = λ tree h e.
     solutions-refused tree (c .enum-told2 .given .1) (c .before .before .check-solutions .ensures tree (the-frame (c .before .before .before .frame-of .ensures) h e))
 
--- src/checking.rt:109:9
 end-to-reach-requires : tie.Need-end-to-reach-requires
 end-to-reach-requires c κs = standing (c .before .before .before .frame-of .ensures) (c .before .before .before .before .before .before .pre)
 
--- src/checking.rt:110:11
 objectives-of-requires : tie.Need-objectives-of-requires
 objectives-of-requires c κs = standing (c .before .before .before .before .frame-of .ensures) (c .before .before .before .before .before .before .before .pre)
 
--- src/checking.rt:111:29
 enum-known-place : tie.Need-enum-known-place
 enum-known-place c = search needs
 
--- src/checking.rt:112:27
 enum-known-best : tie.Need-enum-known-best
 enum-known-best c = search needs
 
--- src/checking.rt:114:17
 returns-2 : tie.Need-returns-2
 returns-2 c = λ tree h e.
     let f = the-frame (c .before .before .before .before .before .before .before .before .before .before .before .frame-of .ensures) h e in
@@ -56,18 +41,15 @@ returns-2 c = λ tree h e.
     not-reached tree (passed (c .before .before .before .before .before .before .before .before .enum-told .given .1) (c .before .before .before .before .before .before .before .before .before .before .check-solutions .ensures tree f)) (c .before .before .before .before .before .before .before .end-to-reach .result) (c .before .before .before .before .before .before .before .end-to-reach .ensures tree f) _ w (c .if1 .taken)
     (ap (λ (p : Places). p .relation) e)
 
--- src/checking.rt:116:13
 check-proof-requires : tie.Need-check-proof-requires
 check-proof-requires c κs = standing (c .before .before .before .before .before .before .before .before .before .before .before .frame-of .ensures) (c .before .before .before .before .before .before .before .before .before .before .before .before .before .before .pre)
 
--- src/checking.rt:100:1
 returns-3 : tie.Need-returns-3
 returns-3 c = λ tree h e.
     let f = the-frame (c .before .before .before .before .before .before .before .before .frame-of .ensures) h e in
     too-wide tree (passed (c .before .before .before .before .before .enum-told .given .1) (c .before .before .before .before .before .before .before .check-solutions .ensures tree f)) _
     (wide-is tree _ (c .before .place .given .1) (c .before .before .before .objectives-of .ensures tree f))
 
--- src/checking.rt:100:1
 returns-4 : tie.Need-returns-4
 returns-4 c = λ tree h e.
     let f = the-frame (c .before .before .before .before .before .before .before .before .before .before .before .before .frame-of .ensures) h e in

@@ -1,50 +1,37 @@
+-- `checker::checking::check_proof` meets its contract: derived rows first, and then the claim.
 use borrow.Author.Needs.{needs}
 use Rattle.checker.proofs.InOrder.{passed, variables-are, derivations-refused, claim-proved, claim-not-proved}
 use Rattle.checker.proofs.checking.check_proof.Statement.{statement}
 use Rattle.checker.proofs.checking.check_proof.Tie as tie
-use Rattle.checker.proofs.checking.check_proof.Reads as reads
-use Rattle.checker.proofs.checking.check_proof.Lts as lts
-use Rattle.checker.proofs.checking.last_place.Reads as last-place-reads
-use Rattle.checker.proofs.claims.is_proved.Reads as is-proved-reads
-use Rattle.checker.proofs.derivations.check_derivations.Reads as check-derivations-reads
-use Rattle.checker.proofs.tables.integers_at.Reads as integers-at-reads
 
--- src/checking.rt:84:9
 integers-at-requires : tie.Need-integers-at-requires
 integers-at-requires c κs = (c .before .before .pre .0, c .before .before .pre .1 .integers)
 
--- src/checking.rt:85:9
 check-derivations-requires : tie.Need-check-derivations-requires
 check-derivations-requires c κs = c .before .before .before .pre
 
 enum-told : tie.Need-enum-told
 enum-told c = search needs
 
--- src/checking.rt:87:9
 enum-told-2 : tie.Need-enum-told-2
 enum-told-2 c = search needs
 
--- src/checking.rt:87:9
 returns : tie.Need-returns
 returns c = λ tree os h b.
     derivations-refused tree os _ (c .enum-told2 .given .1) (c .before .before .check-derivations .ensures tree os h (variables-are h (c .before .before .before .integers-at .ensures tree (h .integers))) b)
 
--- src/checking.rt:89:8
 is-proved-requires : tie.Need-is-proved-requires
 is-proved-requires c κs = c .before .before .before .before .before .before .pre
 
--- src/checking.rt:94:13
 last-place-requires : tie.Need-last-place-requires
 last-place-requires c κs = c .before .before .before .before .before .before .before .before .pre
 
--- src/checking.rt:73:1
 returns-2 : tie.Need-returns-2
 returns-2 c = λ tree os h b.
     claim-proved tree os _
     (passed (c .before .before .enum-told .given .1) (c .before .before .before .before .check-derivations .ensures tree os h (variables-are h (c .before .before .before .before .before .integers-at .ensures tree (h .integers))) b))
     (c .before .is-proved .ensures tree h) (c .if1 .taken)
 
--- src/checking.rt:73:1
 returns-3 : tie.Need-returns-3
 returns-3 c = λ tree os h b.
     claim-not-proved tree os _

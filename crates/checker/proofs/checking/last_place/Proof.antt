@@ -1,3 +1,4 @@
+-- `checker::checking::last_place` meets its contract: the place of the last row's name, or of the word `DER`.
 use borrow.Author.Needs.{needs}
 use Rattle.checker.proofs.DerivationsLaws.{rows-few}
 use Prim.Native.Nat.{_+_, _*_, _-_}
@@ -7,38 +8,28 @@ use Rattle.checker.proofs.LastRow.{no-last, last-stands, place-of-last}
 use native.Mathlib.Omega.{arith}
 use Rattle.checker.proofs.checking.last_place.Statement.{statement}
 use Rattle.checker.proofs.checking.last_place.Tie as tie
-use Rattle.checker.proofs.checking.last_place.Reads as reads
-use Rattle.checker.proofs.checking.last_place.Lts as lts
 
--- src/checking.rt:66:9
 returns : tie.Need-returns
 returns c = λ tree h. sym (ap (lastPlace _) (no-last h (c .if1 .taken)))
 
--- src/checking.rt:68:16
 add-last : tie.Need-add-last
 add-last c = search (needs, rows-few (c .before .before .before .pre .1))
 
--- src/checking.rt:68:16
 sub-last : tie.Need-sub-last
 sub-last c = search needs
 
--- src/checking.rt:69:10
 mul-result : tie.Need-mul-result
 mul-result c = search (needs, rows-few (c .before .before .before .pre .1))
 
--- src/checking.rt:69:5
 mul-result-2 : tie.Need-mul-result-2
 mul-result-2 c = search (needs, rows-few (c .before .before .before .pre .1))
 
--- src/checking.rt:69:5
 shared-slice-read-result : tie.Need-shared-slice-read-result
 shared-slice-read-result c = search (needs, last-stands (c .before .before .before .before .pre .1) (c .before .before .if1 .left) .inside)
 
--- src/checking.rt:69:5
 cast-result : tie.Need-cast-result
 cast-result c = omega (arith, c .shared-slice-known .given (4 * (c .before .before .before .before .args .frame .given + c .before .before .before .before .args .frame .derived - 1)))
 
--- src/checking.rt:61:1
 returns-2 : tie.Need-returns-2
 returns-2 c = λ tree h. last-stands h (c .before .before .if1 .left) .place-is ∙ place-of-last h _ (omega (arith, c .before .before .if1 .left))
 

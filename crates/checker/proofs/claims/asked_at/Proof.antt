@@ -1,33 +1,25 @@
+-- `checker::claims::asked_at` meets its contract: what the claim asks of the last row, by its word and its end.
 use borrow.Author.Needs.{needs}
 use Rattle.checker.proofs.ClaimsLaws.{claim-inside, maximize-is, asked-absurdity, asked-domination, asked-nothing}
 use native.Mathlib.Omega.{arith}
 use Rattle.checker.proofs.claims.asked_at.Statement.{statement}
 use Rattle.checker.proofs.claims.asked_at.Tie as tie
-use Rattle.checker.proofs.claims.asked_at.Reads as reads
-use Rattle.checker.proofs.claims.asked_at.Lts as lts
-use Rattle.checker.proofs.claims.end_of.Reads as end-of-reads
 
--- src/claims.rt:92:8
 mul-if1 : tie.Need-mul-if1
 mul-if1 c = search (needs, claim-inside _ _ _ _ (c .before .before .pre .0 .relation .claim, c .before .before .pre .1 .claim-stands))
 
--- src/claims.rt:92:8
 shared-slice-read-if1 : tie.Need-shared-slice-read-if1
 shared-slice-read-if1 c = search (needs, claim-inside _ _ _ _ (c .before .before .before .pre .0 .relation .claim, c .before .before .before .pre .1 .claim-stands))
 
--- src/claims.rt:93:9
 returns : tie.Need-returns
 returns c = λ tree h. asked-absurdity tree _ _ _ _ (h .claim-stands) (c .if1 .taken)
 
--- src/claims.rt:95:9
 end-of-requires : tie.Need-end-of-requires
 end-of-requires c κs = (c .before .before .before .before .pre .0 .relation .claim, c .before .before .before .before .pre .1 .claim-stands)
 
--- src/claims.rt:87:1
 returns-2 : tie.Need-returns-2
 returns-2 c = λ tree h. asked-domination tree _ _ _ _ (h .claim-stands) (c .before .before .before .if1 .left) (maximize-is h) (c .before .before .end-of .result) (c .before .before .end-of .ensures (tree .relation .claim) (h .claim-stands)) (c .if2 .taken)
 
--- src/claims.rt:87:1
 returns-3 : tie.Need-returns-3
 returns-3 c = λ tree h. asked-nothing tree _ _ _ _ (h .claim-stands) (c .before .before .before .if1 .left) (maximize-is h) (c .before .before .end-of .result) (c .before .before .end-of .ensures (tree .relation .claim) (h .claim-stands)) (c .if2 .left)
 

@@ -1,3 +1,4 @@
+-- `checker::claims::end_of` meets its contract: the lower or the upper end of a range; none of `infeas`.
 use borrow.Author.Needs.{needs}
 use Prim.Native.Nat.{_+_}
 use mathlib.Core.Path.{_∙_}
@@ -5,68 +6,49 @@ use Rattle.checker.proofs.ClaimsLaws.{claim-inside, range-inside, numbe
 use native.Mathlib.Omega.{arith}
 use Rattle.checker.proofs.claims.end_of.Statement.{statement}
 use Rattle.checker.proofs.claims.end_of.Tie as tie
-use Rattle.checker.proofs.claims.end_of.Reads as reads
-use Rattle.checker.proofs.claims.end_of.Lts as lts
-use Rattle.checker.proofs.claims.end_at.Reads as end-at-reads
-use Rattle.checker.proofs.claims.infinite.Reads as infinite-reads
 
--- src/claims.rt:67:8
 mul-if1 : tie.Need-mul-if1
 mul-if1 c = search (needs, claim-inside _ _ _ _ (c .before .pre))
 
--- src/claims.rt:67:8
 shared-slice-read-if1 : tie.Need-shared-slice-read-if1
 shared-slice-read-if1 c = search (needs, claim-inside _ _ _ _ (c .before .before .pre))
 
--- src/claims.rt:68:9
 infinite-requires : tie.Need-infinite-requires
 infinite-requires c κs = search needs
 
--- src/claims.rt:68:9
 returns : tie.Need-returns
 returns c = λ d k. c .infinite .ensures ∙ no-end _ _ _ _ _ d k (c .before .if1 .taken)
 
--- src/claims.rt:71:28
 add-before : tie.Need-add-before
 add-before c = omega (arith, range-inside _ _ _ _ (c .before .if1 .left) (c .before .before .before .before .pre))
 
--- src/claims.rt:71:22
 mul-before : tie.Need-mul-before
 mul-before c = search (needs, range-inside _ _ _ _ (c .before .if1 .left) (c .before .before .before .before .pre))
 
--- src/claims.rt:71:22
 shared-slice-read-before : tie.Need-shared-slice-read-before
 shared-slice-read-before c = omega (arith, range-inside _ _ _ _ (c .before .before .if1 .left) (c .before .before .before .before .before .pre))
 
--- src/claims.rt:71:22
 cast-before : tie.Need-cast-before
 cast-before c = omega (arith, c .shared-slice-known3 .given (c .before .before .before .before .before .args .claim + 1))
 
--- src/claims.rt:72:31
 add-end-at : tie.Need-add-end-at
 add-end-at c = omega (arith, range-inside _ _ _ _ (c .before .before .if1 .left) (c .before .before .before .before .before .pre))
 
--- src/claims.rt:72:42
 add-end-at-2 : tie.Need-add-end-at-2
 add-end-at-2 c = search (needs, number-inside _ _ _ _ (c .before .before .if1 .left) (c .before .before .before .before .before .pre))
 
--- src/claims.rt:72:9
 end-at-requires : tie.Need-end-at-requires
 end-at-requires c κs = upper-there _ _ _ _ (c .before .before .if1 .left) (c .before .before .before .before .before .pre)
 
--- src/claims.rt:74:31
 add-end-at-3 : tie.Need-add-end-at-3
 add-end-at-3 c = omega (arith, range-inside _ _ _ _ (c .before .if1 .left) (c .before .before .before .before .pre))
 
--- src/claims.rt:74:9
 end-at-requires-2 : tie.Need-end-at-requires-2
 end-at-requires-2 c κs = lower-there _ _ _ _ (c .before .if1 .left) (c .before .before .before .before .pre)
 
--- src/claims.rt:63:1
 returns-2 : tie.Need-returns-2
 returns-2 c = λ d k. end-chosen d (c .end-at .result) (c .before .before .if2 .taken) (upper-end _ _ _ _ (c .before .before .before .if1 .left) d k (c .end-at .result) (c .end-at .ensures))
 
--- src/claims.rt:63:1
 returns-3 : tie.Need-returns-3
 returns-3 c = λ d k. end-chosen d (c .end-at2 .result) (c .before .if2 .left) (lower-end _ _ _ _ (c .before .before .if1 .left) d k (c .end-at2 .result) (c .end-at2 .ensures))
 

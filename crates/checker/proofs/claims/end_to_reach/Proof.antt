@@ -1,16 +1,12 @@
+-- `checker::claims::end_to_reach` meets its contract: the upper end for min, the lower end for max.
 use mathlib.Core.Path.{refl, _∙_}
 use Rattle.checker.proofs.ClaimsLaws.{to-reach, maximize-is}
 use Rattle.checker.proofs.claims.end_to_reach.Statement.{statement}
 use Rattle.checker.proofs.claims.end_to_reach.Tie as tie
-use Rattle.checker.proofs.claims.end_to_reach.Reads as reads
-use Rattle.checker.proofs.claims.end_to_reach.Lts as lts
-use Rattle.checker.proofs.claims.end_of.Reads as end-of-reads
 
--- src/claims.rt:83:5
 end-of-requires : tie.Need-end-of-requires
 end-of-requires c κs = (c .before .before .before .pre .0 .relation .claim, c .before .before .before .pre .1 .claim-stands)
 
--- src/claims.rt:79:1
 returns : tie.Need-returns
 returns c = λ tree h. c .end-of .ensures (tree .relation .claim) (h .claim-stands) ∙ to-reach (tree .objective .direction) (tree .relation .claim) (maximize-is h) refl
 

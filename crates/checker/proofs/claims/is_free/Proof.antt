@@ -1,31 +1,23 @@
+-- `checker::claims::is_free` meets its contract: a row has no assumptions exactly if its mask has no bits.
 use borrow.Author.Needs.{needs}
 use Rattle.checker.proofs.DerivationsLaws.{rows-few}
 use Rattle.checker.proofs.ClaimsLaws.{same-test}
 use native.Mathlib.Omega.{arith}
 use Rattle.checker.proofs.claims.is_free.Statement.{statement}
 use Rattle.checker.proofs.claims.is_free.Tie as tie
-use Rattle.checker.proofs.claims.is_free.Reads as reads
-use Rattle.checker.proofs.claims.is_free.Lts as lts
-use Rattle.checker.proofs.assumptions.sets_of.Reads as sets-of-reads
-use Rattle.sets.proofs.is_empty.Reads as is-empty-reads
 
--- src/claims.rt:109:15
 sets-of-requires : tie.Need-sets-of-requires
 sets-of-requires c κs = search needs
 
--- src/claims.rt:110:15
 mul-set : tie.Need-mul-set
 mul-set c = search (needs, rows-few (c .before .before .before .pre .0 .1 .1))
 
--- src/claims.rt:110:15
 array-read-set : tie.Need-array-read-set
 array-read-set c = search (needs, rows-few (c .before .before .before .pre .0 .1 .1))
 
--- src/claims.rt:111:5
 is-empty-requires : tie.Need-is-empty-requires
 is-empty-requires c κs = search needs
 
--- src/claims.rt:105:1
 returns : tie.Need-returns
 returns c = λ tree values h. same-test (c .is-empty .ensures) (c .before .sets-of .ensures tree values h _ (c .before .before .before .before .pre .1))
 

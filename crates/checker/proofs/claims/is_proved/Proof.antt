@@ -1,48 +1,35 @@
+-- `checker::claims::is_proved` meets its contract: by what is asked.
 use borrow.Author.Needs.{needs}
 use mathlib.Core.Path.{refl, sym, ap, _∙_}
 use Rattle.checker.specs.Answers.{askedSays}
 use Rattle.checker.proofs.ClaimsLaws.{answered}
 use Rattle.checker.proofs.claims.is_proved.Statement.{statement}
 use Rattle.checker.proofs.claims.is_proved.Tie as tie
-use Rattle.checker.proofs.claims.is_proved.Reads as reads
-use Rattle.checker.proofs.claims.is_proved.Lts as lts
-use Rattle.checker.proofs.claims.asked_at.Reads as asked-at-reads
-use Rattle.checker.proofs.claims.last_dominates.Reads as last-dominates-reads
-use Rattle.checker.proofs.claims.last_is_absurd.Reads as last-is-absurd-reads
 
--- src/claims.rt:166:11
 asked-at-requires : tie.Need-asked-at-requires
 asked-at-requires c κs = search needs
 
--- src/claims.rt:167:27
 enum-told : tie.Need-enum-told
 enum-told c = search needs
 
--- src/claims.rt:168:29
 enum-told-2 : tie.Need-enum-told-2
 enum-told-2 c = search needs
 
--- src/claims.rt:168:29
 last-is-absurd-requires : tie.Need-last-is-absurd-requires
 last-is-absurd-requires c κs = search needs
 
--- src/claims.rt:169:27
 enum-known-bound : tie.Need-enum-known-bound
 enum-known-bound c = search needs
 
--- src/claims.rt:169:37
 last-dominates-requires : tie.Need-last-dominates-requires
 last-dominates-requires c κs = search needs
 
--- src/claims.rt:162:1
 returns : tie.Need-returns
 returns c = λ tree h. answered tree (sym (ap (askedSays tree) (c .enum-told .given .1)) ∙ c .before .before .asked-at .ensures tree h) refl
 
--- src/claims.rt:162:1
 returns-2 : tie.Need-returns-2
 returns-2 c = λ tree h. answered tree (sym (ap (askedSays tree) (c .before .enum-told2 .given .1)) ∙ c .before .before .before .asked-at .ensures tree h) (c .last-is-absurd .ensures tree h)
 
--- src/claims.rt:162:1
 returns-3 : tie.Need-returns-3
 returns-3 c = λ tree h. answered tree (sym (ap (askedSays tree) (c .before .before .bound .given .1)) ∙ c .before .before .before .before .asked-at .ensures tree h) (c .last-dominates .ensures tree h)
 

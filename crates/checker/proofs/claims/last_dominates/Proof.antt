@@ -1,3 +1,4 @@
+-- `checker::claims::last_dominates` meets its contract: there is a last row, it dominates OBJ with the bound, and it has no assumptions.
 use borrow.Author.Needs.{needs}
 use Rattle.checker.proofs.DerivationsLaws.{rows-few}
 use native.Mathlib.Omega.{arith}
@@ -13,58 +14,41 @@ use Rattle.checker.proofs.ClaimsLaws.{maximize-is, both-pass, first-fai
 use Rattle.checker.proofs.LastRow.{no-last, last-there, last-stands, last-passes}
 use Rattle.checker.proofs.claims.last_dominates.Statement.{statement}
 use Rattle.checker.proofs.claims.last_dominates.Tie as tie
-use Rattle.checker.proofs.claims.last_dominates.Reads as reads
-use Rattle.checker.proofs.claims.last_dominates.Lts as lts
-use Rattle.checker.proofs.claims.is_free.Reads as is-free-reads
-use Rattle.checker.proofs.claims.sense_asked.Reads as sense-asked-reads
-use Rattle.checker.proofs.derivations.objective_with.Reads as objective-with-reads
-use Rattle.checker.proofs.tables.constraint_at.Reads as constraint-at-reads
-use Rattle.constraint.proofs.dominates.Reads as dominates-reads
 
 -- what is asked of the last row
 abbrev asks : Tree → Fraction → Constraint → Bool
 asks tree bound d = dominates (variables tree) d (objectiveWith tree (against (tree .objective .direction)) bound)
 
--- src/claims.rt:152:9
 returns : tie.Need-returns
 returns c = λ tree h. sym (ap (lastPasses tree (asks tree (c .before .before .before .before .args .bound))) (no-last h (c .if1 .taken)))
 
--- src/claims.rt:154:16
 add-last : tie.Need-add-last
 add-last c = search (needs, rows-few (c .before .before .before .before .before .pre .1))
 
--- src/claims.rt:154:16
 sub-last : tie.Need-sub-last
 sub-last c = search needs
 
--- src/claims.rt:156:9
 constraint-at-requires : tie.Need-constraint-at-requires
 constraint-at-requires c κs = last-there (c .before .before .before .before .before .before .pre .1) (c .before .before .if1 .left)
 
--- src/claims.rt:157:9
 sense-asked-requires : tie.Need-sense-asked-requires
 sense-asked-requires c κs = search needs
 
--- src/claims.rt:158:9
 objective-with-requires : tie.Need-objective-with-requires
 objective-with-requires c κs = search needs
 
--- src/claims.rt:159:8
 dominates-requires : tie.Need-dominates-requires
 dominates-requires c κs = search needs
 
--- src/claims.rt:160:9
 is-free-requires : tie.Need-is-free-requires
 is-free-requires c κs = ((c .before .before .before .before .before .before .before .before .before .before .before .args .values .now, c .before .before .before .before .before .before .before .before .before .before .before .pre), omega (arith, c .before .before .before .before .before .before .before .if1 .left))
 
--- src/claims.rt:141:1
 returns-2 : tie.Need-returns-2
 returns-2 c = λ tree h.
     both-pass (dominates-is h (c .before .before .dominates .ensures) (c .before .before .before .before .before .constraint-at .ensures tree _ (last-stands h (c .before .before .before .before .before .before .before .before .if1 .left)))
     (c .before .before .before .objective-with .ensures tree h ∙ ap (λ (s : Sense). objectiveWith tree s (c .before .before .before .before .before .before .before .before .before .before .before .before .args .bound)) (c .before .before .before .before .sense-asked .ensures (tree .objective .direction) (maximize-is h)))) (c .before .if2 .taken) (c .is-free .ensures tree _ h)
     ∙ sym (last-passes h (asks tree (c .before .before .before .before .before .before .before .before .before .before .before .before .args .bound)) (omega (arith, c .before .before .before .before .before .before .before .before .if1 .left)))
 
--- src/claims.rt:141:1
 returns-3 : tie.Need-returns-3
 returns-3 c = λ tree h.
     first-fails _ (dominates-is h (c .before .dominates .ensures) (c .before .before .before .before .constraint-at .ensures tree _ (last-stands h (c .before .before .before .before .before .before .before .if1 .left)))

@@ -1,3 +1,4 @@
+-- `checker::claims::last_is_absurd` meets its contract: there is a last row, it is absurd, and it has no assumptions.
 use borrow.Author.Needs.{needs}
 use Rattle.checker.proofs.DerivationsLaws.{rows-few}
 use native.Mathlib.Omega.{arith}
@@ -9,43 +10,30 @@ use Rattle.checker.proofs.ClaimsLaws.{both-pass, first-fails, absurd-is
 use Rattle.checker.proofs.LastRow.{no-last, last-there, last-stands, last-passes}
 use Rattle.checker.proofs.claims.last_is_absurd.Statement.{statement}
 use Rattle.checker.proofs.claims.last_is_absurd.Tie as tie
-use Rattle.checker.proofs.claims.last_is_absurd.Reads as reads
-use Rattle.checker.proofs.claims.last_is_absurd.Lts as lts
-use Rattle.checker.proofs.claims.is_free.Reads as is-free-reads
-use Rattle.checker.proofs.tables.constraint_at.Reads as constraint-at-reads
-use Rattle.constraint.proofs.is_absurd.Reads as is-absurd-reads
 
--- src/claims.rt:120:9
 returns : tie.Need-returns
 returns c = λ tree h. sym (ap (lastPasses tree (isAbsurd (variables tree))) (no-last h (c .if1 .taken)))
 
--- src/claims.rt:122:16
 add-last : tie.Need-add-last
 add-last c = search (needs, rows-few (c .before .before .before .before .before .pre .1))
 
--- src/claims.rt:122:16
 sub-last : tie.Need-sub-last
 sub-last c = search needs
 
--- src/claims.rt:124:9
 constraint-at-requires : tie.Need-constraint-at-requires
 constraint-at-requires c κs = last-there (c .before .before .before .before .before .before .pre .1) (c .before .before .if1 .left)
 
--- src/claims.rt:125:8
 is-absurd-requires : tie.Need-is-absurd-requires
 is-absurd-requires c κs = search needs
 
--- src/claims.rt:126:9
 is-free-requires : tie.Need-is-free-requires
 is-free-requires c κs = ((c .before .before .before .before .before .before .before .before .before .args .values .now, c .before .before .before .before .before .before .before .before .before .pre), omega (arith, c .before .before .before .before .before .if1 .left))
 
--- src/claims.rt:115:1
 returns-2 : tie.Need-returns-2
 returns-2 c = λ tree h.
     both-pass (absurd-is h (c .before .before .is-absurd .ensures) (c .before .before .before .constraint-at .ensures tree _ (last-stands h (c .before .before .before .before .before .before .if1 .left)))) (c .before .if2 .taken) (c .is-free .ensures tree _ h)
     ∙ sym (last-passes h (isAbsurd (variables tree)) (omega (arith, c .before .before .before .before .before .before .if1 .left)))
 
--- src/claims.rt:115:1
 returns-3 : tie.Need-returns-3
 returns-3 c = λ tree h.
     first-fails _ (absurd-is h (c .before .is-absurd .ensures) (c .before .before .constraint-at .ensures tree _ (last-stands h (c .before .before .before .before .before .if1 .left)))) (c .if2 .left)
