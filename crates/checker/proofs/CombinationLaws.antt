@@ -51,6 +51,19 @@ module _ {A : Type 0} (place : ℕ) {o : Result A} (fits : Bool) (a : A) (e : wi
   pub fits-not : not fits ≡ true → o ≡ refused 12 place
   fits-not t = sym e ∙ ap (λ (b : Bool). within place b a) (not-true fits t)
 
+-- what follows on what fits so far: a value, or 12
+module _ {A B : Type 0} (place : ℕ) (next : A → Result B) {a : A} where
+  pub goes-on : (fits : Bool) {b : B} → done b ≡ next a → within place fits b ≡ bind (within place fits a) next
+  goes-on true e = e
+  goes-on false e = refl
+
+  pub stops : (fits : Bool) → refused 12 place ≡ next a → refused 12 place ≡ bind (within place fits a) next
+  stops true e = e
+  stops false e = refl
+
+  pub fits-on : {fits : Bool} → fits ≡ true → bind (within place fits a) next ≡ next a
+  fits-on e = ap (λ (b : Bool). bind (within place b a) next) e
+
 -- ---- a sum and a product more
 
 abbrev pub plusProduct : ℕ → Fraction → Fraction → Fraction → Result Fraction
@@ -80,28 +93,46 @@ module _ (factor : Fraction) (all : List Fraction) (v : ℕ) {f g : Fraction} (h
 
 -- ---- one row
 
-module _ (place : ℕ) (factor : Fraction) (terms : List Term) (right : Fraction) (c : Combination) where
+-- its terms, from these coefficients on
+abbrev pub withTerms : ℕ → Fraction → List Term → (ℕ → Fraction) → Result (ℕ → Fraction)
+withTerms place factor terms coefficient = through (addMultiple place factor) coefficient terms
+
+pub same-terms : (place : ℕ) (factor : Fraction) (r : Result (ℕ → Fraction)) {a b : List Term} → a ≡ b → bind r (withTerms place factor a) ≡ bind r (withTerms place factor b)
+same-terms place factor r e = ap (λ (ts : List Term). bind r (withTerms place factor ts)) e
+
+module _ (place : ℕ) (factor : Fraction) (terms : List Term) (right : Fraction) where
+  abbrev withRight : Result Fraction → (ℕ → Fraction) → Result Combination
+  withRight r left = bind r (λ s. done (record { coefficient = left; right = s }))
+
   -- its right side, after its terms: in steps of the product and of the sum, and in one
-  abbrev sideThen : (ℕ → Fraction) → Result Combination
-  sideThen left = bind (productAt place factor right) (λ p. bind (sumAt place (c .right) p) (λ s. done (record { coefficient = left; right = s })))
-
-  abbrev rightSide : (ℕ → Fraction) → Result Combination
-  rightSide left = bind (plusProduct place (c .right) factor right) (λ s. done (record { coefficient = left; right = s }))
-
-  -- by what comes of its terms
-  pub next-is : {r : Result (ℕ → Fraction)} → through (addMultiple place factor) (c .coefficient) terms ≡ r → nextCombination place factor terms right c ≡ bind r rightSide
+  next-is : (c : Combination) → nextCombination place factor terms right c ≡ bind (withTerms place factor terms (c .coefficient)) (withRight (plusProduct place (c .right) factor right))
   unfolding nextCombination
-  next-is {r} e = ap (λ (r : Result (ℕ → Fraction)). bind r sideThen) e ∙ go r
+  next-is c = go (withTerms place factor terms (c .coefficient))
     where
-      go : (r : Result (ℕ → Fraction)) → bind r sideThen ≡ bind r rightSide
+      go : (r : Result (ℕ → Fraction))
+          → bind r (λ left. bind (productAt place factor right) (λ p. bind (sumAt place (c .right) p) (λ s. done (record { coefficient = left; right = s }))))
+          ≡ bind r (withRight (plusProduct place (c .right) factor right))
       go (done left) = bind-assoc (productAt place factor right) (λ p. sumAt place (c .right) p) (λ s. done (record { coefficient = left; right = s }))
       go (refused reason at) = refl
 
-  -- and by what comes of its right side
-  pub right-is : (left : ℕ → Fraction) → through (addMultiple place factor) (c .coefficient) terms ≡ done left
-      → {r : Result Fraction} → plusProduct place (c .right) factor right ≡ r
-      → nextCombination place factor terms right c ≡ bind r (λ s. done (record { coefficient = left; right = s }))
-  right-is left e q = next-is e ∙ ap (λ (r : Result Fraction). bind r (λ s. done (record { coefficient = left; right = s }))) q
+  -- by what comes of its terms and of its right side
+  module _ (c : Combination) {r : Result Fraction} (q : plusProduct place (c .right) factor right ≡ r) where
+    next-by : (fits now : Bool) (left : ℕ → Fraction) → within place now left ≡ bind (within place fits (c .coefficient)) (withTerms place factor terms)
+        → bind (within place now left) (withRight r) ≡ bind (within place fits c) (nextCombination place factor terms right)
+    next-by true now left e =
+        ap (λ (x : Result (ℕ → Fraction)). bind x (withRight r)) e
+        ∙ sym (ap (λ (x : Result Fraction). bind (withTerms place factor terms (c .coefficient)) (withRight x)) q)
+        ∙ sym (next-is c)
+    next-by false now left e = ap (λ (x : Result (ℕ → Fraction)). bind x (withRight r)) e
+
+  module _ (c : Combination) (fits now : Bool) (left : ℕ → Fraction) (e : within place now left ≡ bind (within place fits (c .coefficient)) (withTerms place factor terms)) where
+    pub next-value : (s : Fraction) → plusProduct place (c .right) factor right ≡ done s
+        → within place now (record { coefficient = left; right = s }) ≡ bind (within place fits c) (nextCombination place factor terms right)
+    next-value s q = goes-on place (withRight (done s)) now refl ∙ next-by c q fits now left e
+
+    pub next-refused : plusProduct place (c .right) factor right ≡ refused 12 place
+        → refused 12 place ≡ bind (within place fits c) (nextCombination place factor terms right)
+    next-refused q = stops place (withRight (refused 12 place)) now refl ∙ next-by c q fits now left e
 
 -- ---- all rows
 

@@ -14,13 +14,14 @@ use lib.Signed.{ltZ, leZ}
 use Rattle.fraction.specs.declared.Fraction.{Fraction}
 use Rattle.grammar.specs.Tree.{Sense, equal, atMost, atLeast, Multiplier, Tree}
 use Rattle.rules.specs.Tests.{allOf}
-use Rattle.rules.specs.Result.{Result, done, refused, bind, _andThen_, require}
+use Rattle.rules.specs.Result.{Result, Verdict, done, bind, _andThen_, require}
 use Rattle.rules.specs.Values.{sameZ, isZero, isPositive, isNegative}
 use Rattle.rules.specs.Rows.{Constraint, rowAt}
 use Rattle.rules.specs.Combinations.{Combination, signed, isSuitable, senseOf, combine, suitableCombination}
 use Rattle.constraint.specs.Signs.{signedNumber, senseBy, noneNegative, nonePositive, suitable-by, sense-by}
 use Rattle.checker.specs.Tables.{fractionAt, listedAt, aMultiplier, Listed}
 use Rattle.checker.specs.Held.{RowsStand}
+use Rattle.checker.specs.Answers.{within}
 use Rattle.checker.specs.declared.tables.Pairs.{Pairs}
 use Rattle.checker.proofs.TablesLaws.{listed-on, listed-next, listed-none}
 
@@ -103,20 +104,16 @@ module _ (tree : Tree) (place : ℕ) (ms : List Multiplier) where
   abbrev constrained : Combination → Result Constraint
   constrained c = done (record { sense = senseOf tree ms; coefficient = c .coefficient; right = c .right })
 
-  pub not-suitable : isSuitable tree ms ≡ false → refused 13 place ≡ suitableCombination tree place ms
+  pub judged : (t f : Bool) {v : Verdict} (c : Constraint) → v ≡ require t 13 place andThen require f 12 place → isSuitable tree ms ≡ t → c .sense ≡ senseOf tree ms
+      → within place f (record { coefficient = c .coefficient; right = c .right }) ≡ combine tree place ms
+      → v andThen done c ≡ suitableCombination tree place ms
   unfolding suitableCombination
-  not-suitable e = sym (ap (λ (t : Bool). require t 13 place andThen bind (combine tree place ms) constrained) e)
-
-  module _ (s : isSuitable tree ms ≡ true) where
-    suitable-is : {r : Result Combination} → combine tree place ms ≡ r → bind r constrained ≡ suitableCombination tree place ms
-    unfolding suitableCombination
-    suitable-is e =
-        sym (ap (λ (r : Result Combination). bind r constrained) e)
-        ∙ sym (ap (λ (t : Bool). require t 13 place andThen bind (combine tree place ms) constrained) s)
-
-    pub too-wide : combine tree place ms ≡ refused 12 place → refused 12 place ≡ suitableCombination tree place ms
-    too-wide e = suitable-is e
-
-    pub is-suitable : (c : Constraint) → c .sense ≡ senseOf tree ms → combine tree place ms ≡ done (record { coefficient = c .coefficient; right = c .right })
-        → done c ≡ suitableCombination tree place ms
-    is-suitable c q e = ap (λ (s : Sense). done (record { sense = s; coefficient = c .coefficient; right = c .right })) q ∙ suitable-is e
+  judged t f c e s q made =
+      ap (λ (v : Verdict). v andThen done c) e
+      ∙ go t f
+      ∙ sym (ap₂ (λ (b : Bool) (r : Result Combination). require b 13 place andThen bind r constrained) s (sym made))
+    where
+      go : (t f : Bool) → (require t 13 place andThen require f 12 place) andThen done c ≡ require t 13 place andThen bind (within place f (record { coefficient = c .coefficient; right = c .right })) constrained
+      go false f = refl
+      go true false = refl
+      go true true = ap (λ (s : Sense). done (record { sense = s; coefficient = c .coefficient; right = c .right })) q

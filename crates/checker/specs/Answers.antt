@@ -21,8 +21,6 @@ use Rattle.checker.specs.declared.Check.the-variants as check
 use Rattle.checker.specs.declared.Verdict.{Verdict}
 use Rattle.checker.specs.declared.Verdict.the-variants as verdict
 use Rattle.checker.specs.declared.combination.Combination.{Combination}
-use Rattle.checker.specs.declared.combination.Added.{Added}
-use Rattle.checker.specs.declared.combination.Combined.{Combined}
 use Rattle.checker.specs.declared.suitable.Suitable.{Suitable}
 use Rattle.checker.specs.declared.objectives.Best.{Best}
 use Rattle.checker.specs.declared.objectives.Objectives.{Objectives}
@@ -46,14 +44,14 @@ abbrev pub within : {A : Type 0} → ℕ → Bool → A → result.Result A
 within place true a = result.done a
 within place false a = result.refused 12 place
 
-abbrev pub addedSays : ℕ → Added → result.Result (ℕ → Fraction)
-addedSays place r = within place (r .fits) (coefficientsOf (r .coefficients))
+abbrev pub coefficientsSay : ℕ → Combination → result.Result (ℕ → Fraction)
+coefficientsSay place c = within place (c .fits) (coefficientsOf (c .coefficients))
 
 abbrev pub combinationOf : Combination → rules.Combination
 combinationOf c = record { coefficient = coefficientsOf (c .coefficients); right = c .right }
 
-abbrev pub combinedSays : ℕ → Combined → result.Result rules.Combination
-combinedSays place r = within place (r .fits) (combinationOf (r .combination))
+abbrev pub combinationSays : ℕ → Combination → result.Result rules.Combination
+combinationSays place c = within place (c .fits) (combinationOf c)
 
 -- a suitable combination, at this place: it, where the check is fine; else why not
 abbrev pub suitableSays : ℕ → Suitable → result.Result rows.Constraint

@@ -3,13 +3,14 @@ ghost use mathlib.Core.Path.{_≡_};
 ghost use mathlib.Core.Bool.{not};
 ghost use Prim.Native.Nat.{ℕ};
 ghost use Rattle.grammar.specs.Tree.{Row, Tree};
+ghost use Rattle.rules.specs.Result.{_andThen_, require};
 ghost use Rattle.rules.specs.Tests.{allOf};
 ghost use Rattle.rules.specs.Values.{isPositive, isNegative};
 ghost use Rattle.rules.specs.Combinations.{signed, suitableCombination};
 ghost use Rattle.constraint.specs.Signs.{signedNumber};
 ghost use Rattle.checker.specs.Tables.{multipliersAt, Listed};
 ghost use Rattle.checker.specs.Held.{RowStands, RowIsThere, RowsStand, RowsAreThere};
-ghost use Rattle.checker.specs.Answers.{suitableSays};
+ghost use Rattle.checker.specs.Answers.{checkSays, suitableSays};
 use crate::Check;
 use crate::combination;
 use crate::tables;
@@ -24,10 +25,10 @@ pub(crate) struct Signs {
     pub(crate) nonpositive: bool,
 }
 
-// Whether multipliers give a suitable combination, and if so the constraint that it denotes.
+// The constraint that a combination denotes, and whether it is suitable and fits.
 pub(crate) struct Suitable {
-    pub(crate) check: Check,
     pub(crate) constraint: Constraint,
+    pub(crate) check: Check,
 }
 
 // The numerator of a multiplier of row r times the row's sign.
@@ -81,6 +82,19 @@ fn signs_of(
     }
 }
 
+// 13, unless the multipliers are suitable; then 12, unless the combination fits.
+fn check_combination(suitable: bool, fits: bool) -> Check
+    ensures { λ c. ⌜ ((place : ℕ) → checkSays place c ≡ require suitable 13 place andThen require fits 12 place) ⌝ }
+{
+    if !suitable {
+        return Check::Refused(Refusal::MultipliersNotSuitable);
+    }
+    if !fits {
+        return Check::Refused(Refusal::ResultTooWide);
+    }
+    Check::Fine
+}
+
 // The suitable combination of the rows that multipliers name, all below the row `own`: 13, then 12.
 pub(crate) fn suitable_of(
     index: &[u16],
@@ -96,28 +110,16 @@ pub(crate) fn suitable_of(
     let s = signs_of(index, values, rows, objective, multipliers, own);
     let sense = constraint::sense_of(s.nonnegative, s.nonpositive);
     let made = combination::combine(index, values, rows, objective, multipliers, own);
-    let combination = made.combination;
-    let coefficients = combination.coefficients;
-    let right = combination.right;
+    let check = check_combination(s.nonnegative | s.nonpositive, made.fits);
+    let coefficients = made.coefficients;
+    let right = made.right;
     let constraint = Constraint {
-        sense: sense,
         coefficients: coefficients,
         right: right,
+        sense: sense,
     };
-    if !(s.nonnegative | s.nonpositive) {
-        return Suitable {
-            check: Check::Refused(Refusal::MultipliersNotSuitable),
-            constraint: constraint,
-        };
-    }
-    if !made.fits {
-        return Suitable {
-            check: Check::Refused(Refusal::ResultTooWide),
-            constraint: constraint,
-        };
-    }
     Suitable {
-        check: Check::Fine,
         constraint: constraint,
+        check: check,
     }
 }

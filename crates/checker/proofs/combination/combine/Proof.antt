@@ -1,15 +1,17 @@
 -- `checker::combination::combine` meets its contract: what is left to combine gives the same as all rows.
-use mathlib.Core.Path.{_≡_, _∙_}
+use mathlib.Core.Path.{_≡_, ap, _∙_}
+use mathlib.Core.Bool.{Bool, true}
 use Prim.Native.Nat.{_<_}
 use native.Mathlib.Omega.{arith}
+use borrow.Author.Tests.{not-false}
 use borrow.Author.Needs.{needs}
 use lib.ListN.{getD}
 use Rattle.rules.specs.Rows.{rowAt}
 use Rattle.rules.specs.Combinations.{combine}
 use Rattle.checker.specs.Tables.{fractionAt, listedAt, aMultiplier}
-use Rattle.checker.specs.Answers.{combinationOf, combinedSays}
+use Rattle.checker.specs.Answers.{within, combinationOf, combinationSays}
 use Rattle.checker.proofs.TablesLaws.{Going, going-on, going-stop, going-end, listed-small}
-use Rattle.checker.proofs.CombinationLaws.{fits-is, fits-not, StandingAt, rowStep, same-factor, all-rows}
+use Rattle.checker.proofs.CombinationLaws.{fits-is, fits-not, fits-on, StandingAt, rowStep, same-factor, all-rows}
 use Rattle.checker.proofs.combination.combine.Statement.{statement}
 use Rattle.checker.proofs.combination.combine.Tie as tie
 
@@ -18,6 +20,7 @@ Inv-loop index values rows objective own done₀ cell₀ number₀ left₀ done 
     Going aMultiplier index values own rowStep
     (λ (g : StandingAt index values rows objective own). combine (g .tree) (g .place) (listedAt aMultiplier index values cell₀ number₀ left₀))
     (combinationOf done) cell number left
+    × (done .fits ≡ true)
 
 abbrev μ-loop : tie.MeasureT-loop
 μ-loop index values rows objective own done₀ cell₀ number₀ left₀ done cell number left = left
@@ -27,7 +30,7 @@ start c = c .before .before .before .before .before
 
 -- the next row's index
 small : (c : tie.In-loop Inv-loop μ-loop) → getD (start c .args .index .now) (c .before .loop .cell) 0 < start c .args .own
-small c = listed-small (c .before .loop .inv .listed) (c .loop-test .taken)
+small c = listed-small (c .before .loop .inv .0 .listed) (c .loop-test .taken)
 
 abbrev in-loop : tie.After-next Inv-loop μ-loop → tie.In-loop Inv-loop μ-loop
 in-loop c = c .before .before .before
@@ -37,15 +40,18 @@ Stands s = StandingAt (s .args .index .now) (s .args .values .now) (s .args .row
 
 -- the next row
 row-says : (c : tie.After-next Inv-loop μ-loop) (g : Stands (start (in-loop c)))
-    → combinedSays (g .place) (c .next .result)
+    → combinationSays (g .place) (c .next .result)
     ≡ rowStep g (combinationOf (in-loop c .before .loop .done)) (aMultiplier (getD (start (in-loop c) .args .index .now) (in-loop c .before .loop .cell) 0) (fractionAt (start (in-loop c) .args .values .now) (in-loop c .before .loop .number)))
-row-says c g = c .next .ensures (g .tree) _ (g .stand _ (small (in-loop c))) (g .place) ∙ same-factor g _ _ (c .before .fraction-at .ensures)
+row-says c g =
+    c .next .ensures (g .tree) _ (g .stand _ (small (in-loop c))) (g .place)
+    ∙ fits-on (g .place) _ (in-loop c .before .loop .inv .1)
+    ∙ same-factor g _ _ (c .before .fraction-at .ensures)
 
 empty-requires : tie.Need-empty-requires Inv-loop μ-loop
 empty-requires c κs = search needs
 
 loop-holds : tie.Need-loop-holds Inv-loop μ-loop
-loop-holds c = record { same = λ g. all-rows g _ (c .empty .ensures); listed = c .before .before .before .pre .1 }
+loop-holds c = (record { same = λ g. all-rows g _ (c .empty .ensures .0); listed = c .before .before .before .pre .1 }, c .empty .ensures .1)
 
 mul-r : tie.Need-mul-r Inv-loop μ-loop
 mul-r c = search needs
@@ -57,7 +63,7 @@ cast-r : tie.Need-cast-r Inv-loop μ-loop
 cast-r c = omega (arith, small (c .before), c .shared-slice-known3 .given (c .before .before .loop .cell))
 
 fraction-at-requires : tie.Need-fraction-at-requires Inv-loop μ-loop
-fraction-at-requires c κs = omega (arith, c .before .before .loop .inv .listed .numbers, c .before .loop-test .taken)
+fraction-at-requires c κs = omega (arith, c .before .before .loop .inv .0 .listed .numbers, c .before .loop-test .taken)
 
 next-requires : tie.Need-next-requires Inv-loop μ-loop
 next-requires c κs =
@@ -71,7 +77,7 @@ returns c =
     let l = in-loop w in
     let g : Stands (start l) = record { tree = tree; stand = stand; place = place } in
     let no = fits-not place (w .next .result .fits) _ (row-says w g) (c .if1 .taken) in
-    row-says w g ∙ no ∙ going-stop aMultiplier _ _ _ rowStep _ _ _ _ _ (l .before .loop .inv) (l .loop-test .taken) g 12 place no
+    row-says w g ∙ no ∙ going-stop aMultiplier _ _ _ rowStep _ _ _ _ _ (l .before .loop .inv .0) (l .loop-test .taken) g 12 place no
 
 add-cell : tie.Need-add-cell Inv-loop μ-loop
 add-cell c = search needs
@@ -87,15 +93,18 @@ loop-less c = search needs
 
 loop-again : tie.Need-loop-again Inv-loop μ-loop
 loop-again c =
-    let w = c .before .before .before in
-    let l = in-loop w in
-    going-on aMultiplier _ _ _ rowStep _ _ _ _ _ _ (l .before .loop .inv) (l .loop-test .taken)
-    (λ g. fits-is (g .place) (w .next .result .fits) _ (row-says w g) (c .before .if1 .left))
+    let w = c .before .before in
+    let l = in-loop w in (
+      going-on aMultiplier _ _ _ rowStep _ _ _ _ _ _ (l .before .loop .inv .0) (l .loop-test .taken)
+          (λ g. fits-is (g .place) (w .next .result .fits) _ (row-says w g) (c .if1 .left)),
+      not-false _ (c .if1 .left),
+    )
 
 returns-2 : tie.Need-returns-2 Inv-loop μ-loop
 returns-2 c =
     λ tree stand place.
-    going-end aMultiplier _ _ _ rowStep _ _ _ _ _ (c .before .loop .inv) (c .loop-test .left) (record { tree = tree; stand = stand; place = place })
+    ap (λ (fits : Bool). within place fits (combinationOf (c .before .loop .done))) (c .before .loop .inv .1)
+    ∙ going-end aMultiplier _ _ _ rowStep _ _ _ _ _ (c .before .loop .inv .0) (c .loop-test .left) (record { tree = tree; stand = stand; place = place })
 
 pub combine-spec : {M : Type 1} → statement M
 combine-spec =

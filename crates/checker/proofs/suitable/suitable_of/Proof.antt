@@ -1,8 +1,8 @@
 -- `checker::suitable::suitable_of` meets its contract: the sign rule by its two tests, then the combination.
-use borrow.Author.Tests.{not-true, not-false}
+use mathlib.Core.Path.{refl}
+use mathlib.Core.Bool.{_||_}
 use borrow.Author.Needs.{needs}
-use Rattle.checker.proofs.CombinationLaws.{fits-is, fits-not}
-use Rattle.checker.proofs.SuitableLaws.{suitable-told, sense-told, not-suitable, too-wide, is-suitable}
+use Rattle.checker.proofs.SuitableLaws.{suitable-told, sense-told, judged}
 use Rattle.checker.proofs.suitable.suitable_of.Statement.{statement}
 use Rattle.checker.proofs.suitable.suitable_of.Tie as tie
 
@@ -15,28 +15,28 @@ sense-of-requires c κs = search needs
 combine-requires : tie.Need-combine-requires
 combine-requires c κs = search needs
 
+check-combination-requires : tie.Need-check-combination-requires
+check-combination-requires c κs = search needs
+
 returns : tie.Need-returns
 returns c =
     λ tree stand place.
-    let s = c .before .before .before .before .before .before .before .signs-of .ensures in
-    not-suitable tree place _ (suitable-told tree _ (s .0 tree stand) (s .1 tree stand) (not-true _ (c .if1 .taken)))
-
-returns-2 : tie.Need-returns-2
-returns-2 c =
-    λ tree stand place.
-    let s = c .before .before .before .before .before .before .before .before .before .signs-of .ensures in
-    too-wide tree place _ (suitable-told tree _ (s .0 tree stand) (s .1 tree stand) (not-false _ (c .before .before .if1 .left)))
-    (fits-not place (c .before .before .before .before .before .before .before .combine .result .fits) _ (c .before .before .before .before .before .before .before .combine .ensures tree stand place) (c .if2 .taken))
-
-returns-3 : tie.Need-returns-3
-returns-3 c =
-    λ tree stand place.
-    let s = c .before .before .before .before .before .before .before .before .before .signs-of .ensures in
-    is-suitable tree place _ (suitable-told tree _ (s .0 tree stand) (s .1 tree stand) (not-false _ (c .before .before .if1 .left))) _
-    (sense-told tree _ (s .0 tree stand) (s .1 tree stand) (c .before .before .before .before .before .before .before .before .sense-of .ensures))
-    (fits-is place (c .before .before .before .before .before .before .before .combine .result .fits) _ (c .before .before .before .before .before .before .before .combine .ensures tree stand place) (c .if2 .left))
+    let checked = c .before .before in
+    let made = checked .before .before in
+    let signs = made .before .before .signs-of in
+    let first = signs .ensures .0 tree stand in
+    let second = signs .ensures .1 tree stand in
+    judged tree place _ (signs .result .nonnegative || signs .result .nonpositive) (made .combine .result .fits) _ (checked .check-combination .ensures place)
+    (suitable-told tree _ first second refl)
+    (sense-told tree _ first second (made .before .sense-of .ensures))
+    (made .combine .ensures tree stand place)
 
 pub suitable-of-spec : {M : Type 1} → statement M
 suitable-of-spec =
     tie.close
-    (tie.spec signs-of-requires sense-of-requires combine-requires returns returns-2 returns-3)
+    (tie.spec
+    signs-of-requires
+    sense-of-requires
+    combine-requires
+    check-combination-requires
+    returns)
