@@ -243,9 +243,9 @@ pub(crate) fn objective_with(
 {
     let coefficients = tables::coefficients_at(index, values, frame.objective);
     Constraint {
-        sense: sense,
         coefficients: coefficients,
         right: right,
+        sense: sense,
     }
 }
 

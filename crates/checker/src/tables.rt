@@ -120,9 +120,9 @@ pub(crate) fn constraint_at(
     let coefficients = coefficients_at(index, values, side);
     let right = fraction_at(values, number);
     Constraint {
-        sense: sense,
         coefficients: coefficients,
         right: right,
+        sense: sense,
     }
 }
 

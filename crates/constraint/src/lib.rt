@@ -28,11 +28,11 @@ pub enum Sense {
     AtLeast,
 }
 
-// A sense, the coefficient of each variable, and a right side.
+// The coefficient of each variable, a right side, and a sense.
 pub struct Constraint {
-    pub sense: Sense,
     pub coefficients: [Fraction; 256],
     pub right: Fraction,
+    pub sense: Sense,
 }
 
 // The sense's number in the index table.
@@ -159,8 +159,8 @@ pub fn is_absurd(c: Constraint, n: usize) -> bool
     let coefficients = c.coefficients;
     let sense = c.sense;
     let right = c.right;
-    if all_zero(coefficients, n) {
-        fails_at_zero(sense, right)
+    if fails_at_zero(sense, right) {
+        all_zero(coefficients, n)
     } else {
         false
     }
@@ -197,16 +197,14 @@ pub fn is_tighter(s: Sense, a: Fraction, t: Sense, b: Fraction) -> bool
 pub fn dominates(c: Constraint, d: Constraint, n: usize) -> bool
     ensures { λ r. ⌜ r ≡ dominatesOf n (meant c) (meant d) ⌝ }
 {
-    if is_absurd(c, n) {
-        return true;
-    }
     let s = c.sense;
     let t = d.sense;
     if same_coefficients(c, d, n) {
-        is_tighter(s, c.right, t, d.right)
-    } else {
-        false
+        if is_tighter(s, c.right, t, d.right) {
+            return true;
+        }
     }
+    is_absurd(c, n)
 }
 
 // ---- rounding
