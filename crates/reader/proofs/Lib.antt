@@ -6,7 +6,8 @@ mod Turns
 mod Listed
 mod Alternatives
 mod Choices
-mod Names
+mod NamesLaws
+mod Fingerprints
 mod Reasons
 mod SectionLaws
 mod Fill

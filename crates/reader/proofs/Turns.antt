@@ -1,12 +1,12 @@
 -- What one turn of each loop does to the definition that the loop works out.
 -- Assumes nothing.
 use mathlib.Core.Path.{_≡_, refl, sym, ap, _∙_, subst}
-use mathlib.Core.Bool.{Bool, true, false, cond, _&&_}
+use mathlib.Core.Bool.{Bool, true, false, cond, _&&_, _||_}
 use mathlib.Core.List.{List, [], _∷_, map}
 use Prim.Native.Nat.{ℕ, _+_, _-_, _*_, _≤_, _<_, min}
 use native.Mathlib.Numerals.{add-one}
 use native.Mathlib.Omega.{arith}
-use lib.Dec.{leb}
+use lib.Dec.{leb, eqb}
 use lib.ListN.{length, take, drop, getD}
 use lib.Seq.{slice, slice-cons}
 use borrow.Author.Tests.{le-leb, lt-leb, leb-true, leb-false}
@@ -44,6 +44,17 @@ module _ {B : Type 0} {F : List ℕ → B} {l : List ℕ} {i to : ℕ} {answer :
     -- after the element at i the answer is a, whatever the rest
     pub settled : {a : B} → ((xs : List ℕ) → F (getD l i 0 ∷ xs) ≡ a) → a ≡ answer
     settled e = sym (e (slice (i + 1) to l)) ∙ one-on .is
+
+-- ---- a number among others
+
+-- what was found, or is one of the first and of the others
+pub found-or : (found : Bool) (x y : ℕ) (xs : List ℕ) → found || isAmong eqb x (y ∷ xs) ≡ (found || eqb x y) || isAmong eqb x xs
+found-or true x y xs = refl
+found-or false x y xs = go (eqb x y)
+  where
+    go : (t : Bool) → cond t true (isAmong eqb x xs) ≡ t || isAmong eqb x xs
+    go true = refl
+    go false = refl
 
 -- ---- a byte between two bounds
 

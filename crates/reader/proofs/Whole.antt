@@ -37,7 +37,7 @@ use Rattle.reader.specs.declared.Step.the-variants.{Stop}
 use Rattle.reader.proofs.Laws.{then-went, then-stops, view-went, view-stop}
 use Rattle.reader.proofs.Alternatives.{unit}
 use Rattle.reader.proofs.SectionLaws.{spelled}
-use Rattle.reader.proofs.Names.{marked-laid, marked-beyond, rows-marked, solutions-marked}
+use Rattle.reader.proofs.NamesLaws.{marked-laid, marked-beyond, rows-marked, solutions-marked}
 
 -- ---- documents
 

@@ -1,9 +1,12 @@
 -- What the functions under the reading of a token answer: the number that digits spell, and the words of a choice.
 -- Assumes nothing.
+use mathlib.Core.Path.{_≡_}
 use mathlib.Core.Bool.{Bool, false, cond}
 use mathlib.Core.List.{List, [], _∷_, map}
 use mathlib.Core.Option.{Option, none, some}
-use Prim.Native.Nat.{ℕ, suc, min}
+use Prim.Native.Nat.{ℕ, suc, _+_, _*_, _%_, _≤_, min}
+use lib.ListN.{length}
+use lib.Seq.{slice}
 use Rattle.text.specs.Bytes.{Bytes, every, same, isDigit, numberOf}
 use Rattle.text.specs.Tokens.{Token, Stream, end, token, listed, rest}
 use Rattle.grammar.specs.Format.{Word}
@@ -28,6 +31,19 @@ namesIn text (p ∷ l ∷ c ∷ []) = []
 namesIn text (p ∷ l ∷ []) = []
 namesIn text (p ∷ []) = []
 namesIn text [] = []
+
+-- a number of 16 bits for a name: of its bytes in order, after those that gave n
+abbrev pub fingerprintAfter : ℕ → Bytes → ℕ
+fingerprintAfter n [] = n
+fingerprintAfter n (b ∷ w) = fingerprintAfter ((n * 31 + b) % 65536) w
+
+unfoldable pub fingerprintOf : Bytes → ℕ
+fingerprintOf w = fingerprintAfter 0 w
+
+-- these are the fingerprints of the names of the rows below `count`
+pub record Fingerprinted (text : Bytes) (rows : List ℕ) (count : ℕ) (prints : List ℕ) : Type 0 where
+  pub enough : count ≤ length prints
+  pub are : slice 0 count prints ≡ map fingerprintOf (namesIn text (slice 0 (4 * count) rows))
 
 -- words, numbered from k on
 abbrev pub numbered : ℕ → List Bytes → List (Word ℕ)

@@ -10,11 +10,12 @@ ghost use Prim.Native.Nat.{ℕ, _+_, _*_, _≤_, _<_};
 ghost use Rattle.grammar.specs.Format.{items};
 ghost use Rattle.grammar.specs.Certificate.{ReasonWord, reasonCell, detail, unsplit, reason, last, derivation};
 ghost use Rattle.reader.specs.Steps.{state, IndexRoom, ValueRoom, RowRoom, Room, Reads, any, the};
-ghost use Rattle.reader.specs.Leaves.{namesIn};
+ghost use Rattle.reader.specs.Leaves.{namesIn, Fingerprinted};
 ghost use Rattle.reader.specs.Parts.{justification, derivationBut, asReasons, asDerivations};
 use crate::Cursor;
 use crate::Step;
 use crate::lists;
+use crate::names;
 use crate::rows;
 use crate::symbols;
 
@@ -139,7 +140,8 @@ pub(crate) fn read_justification(
     Step::Next(k, g)
 }
 
-// The derivation of the row `own` is due, of `total` rows in all, after so many assumptions.
+// The derivation of the row `own` is due, of `total` rows in all, after so many assumptions; the names of the rows before it have
+// these fingerprints.
 pub(crate) fn read_derivation(
     text: &[u8],
     c: Cursor,
@@ -150,11 +152,12 @@ pub(crate) fn read_derivation(
     index: &mut [u16],
     values: &mut [i32],
     rows: &mut [u16],
+    prints: &[u16],
 ) -> Step
-    requires { ⌜ Room (now text) (state c (now index) (now values) (now rows)) × (n ≤ 256) × (own < 1024) × (total ≤ 1024) ⌝ }
+    requires { ⌜ Room (now text) (state c (now index) (now values) (now rows)) × (n ≤ 256) × (own < 1024) × (total ≤ 1024) × Fingerprinted (now text) (now rows) own (now prints) ⌝ }
     ensures { λ r. ⌜ Reads (derivationBut n own total assumed (namesIn (now (text .entry)) (slice 0 (4 * own) (now (rows .entry))))) (the asDerivations) (now (text .entry)) (state c (now (index .entry)) (now (values .entry)) (now (rows .entry))) (now (index .exit)) (now (values .exit)) (now (rows .exit)) r ⌝ }
 {
-    let s = rows::read_row(text, c, n, own, index, values, rows);
+    let s = rows::read_row(text, c, n, own, index, values, rows, prints);
     let Step::Next(_, d) = s else {
         return s;
     };
@@ -176,14 +179,28 @@ pub(crate) fn read_derivations(
     ensures { λ r. ⌜ Reads (items count (derivation n m (namesIn (now (text .entry)) (slice 0 (4 * m) (now (rows .entry)))) count)) any (now (text .entry)) (state c (now (index .entry)) (now (values .entry)) (now (rows .entry))) (now (index .exit)) (now (values .exit)) (now (rows .exit)) r ⌝ }
 {
     let total = m + count;
+    let mut prints = names::fingerprints(text, rows, m);
     let mut d = c;
     let mut assumed = 0;
     let mut i = 0;
     while i < count {
-        let s = read_derivation(text, d, n, m + i, total, assumed, index, values, rows);
+        let own = m + i;
+        let s = read_derivation(
+            text,
+            d,
+            n,
+            own,
+            total,
+            assumed,
+            index,
+            values,
+            rows,
+            &prints,
+        );
         let Step::Next(k, e) = s else {
             return s;
         };
+        prints[own] = names::row_fingerprint(text, rows, own);
         d = e;
         assumed += k;
         i += 1;

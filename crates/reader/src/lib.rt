@@ -7,6 +7,7 @@ mod clearing;
 mod derivations;
 mod documents;
 mod lists;
+mod names;
 mod rows;
 mod sections;
 mod symbols;

@@ -7,11 +7,12 @@ ghost use Prim.Native.Nat.{ℕ, _*_, _≤_, _<_};
 ghost use Rattle.grammar.specs.Format.{items};
 ghost use Rattle.grammar.specs.Certificate.{side, row, rowNames};
 ghost use Rattle.reader.specs.Steps.{state, IndexRoom, ValueRoom, RowRoom, Room, Reads, any, the};
-ghost use Rattle.reader.specs.Leaves.{namesIn};
+ghost use Rattle.reader.specs.Leaves.{namesIn, Fingerprinted};
 ghost use Rattle.reader.specs.Parts.{rowBody};
 use crate::Cursor;
 use crate::Step;
 use crate::lists;
+use crate::names;
 use crate::symbols;
 
 // A row's left side is due: `OBJ`, or a count and that many terms.
@@ -58,7 +59,7 @@ pub(crate) fn read_row_body(
     read_side(text, e, n, index, values)
 }
 
-// The row with the index `own` is due, whose name none of the rows before it has.
+// The row with the index `own` is due, whose name none of the rows before it has; their names have these fingerprints.
 pub(crate) fn read_row(
     text: &[u8],
     c: Cursor,
@@ -67,11 +68,12 @@ pub(crate) fn read_row(
     index: &mut [u16],
     values: &mut [i32],
     rows: &mut [u16],
+    prints: &[u16],
 ) -> Step
-    requires { ⌜ Room (now text) (state c (now index) (now values) (now rows)) × (n ≤ 256) × (own < 1024) ⌝ }
+    requires { ⌜ Room (now text) (state c (now index) (now values) (now rows)) × (n ≤ 256) × (own < 1024) × Fingerprinted (now text) (now rows) own (now prints) ⌝ }
     ensures { λ r. ⌜ Reads (row n own (namesIn (now (text .entry)) (slice 0 (4 * own) (now (rows .entry))))) any (now (text .entry)) (state c (now (index .entry)) (now (values .entry)) (now (rows .entry))) (now (index .exit)) (now (values .exit)) (now (rows .exit)) r ⌝ }
 {
-    let s = symbols::read_row_name(text, c, own, own, rows);
+    let s = symbols::read_row_name(text, c, own, own, rows, prints);
     let Step::Next(_, d) = s else {
         return s;
     };
@@ -91,13 +93,15 @@ pub(crate) fn read_rows(
     requires { ⌜ Room (now text) (state c (now index) (now values) (now rows)) × (n ≤ 256) × (count ≤ 1024) ⌝ }
     ensures { λ r. ⌜ Reads (items count (λ before. row n (length before) (rowNames before))) any (now (text .entry)) (state c (now (index .entry)) (now (values .entry)) (now (rows .entry))) (now (index .exit)) (now (values .exit)) (now (rows .exit)) r ⌝ }
 {
+    let mut prints = [0u16; 1024];
     let mut d = c;
     let mut i = 0;
     while i < count {
-        let s = read_row(text, d, n, i, index, values, rows);
+        let s = read_row(text, d, n, i, index, values, rows, &prints);
         let Step::Next(_, e) = s else {
             return s;
         };
+        prints[i] = names::row_fingerprint(text, rows, i);
         d = e;
         i += 1;
     }

@@ -228,7 +228,8 @@ pub(crate) fn read_solution(
     requires { ⌜ Room (now text) (state c (now index) (now values) (now rows)) × (n ≤ 256) × (j < 64) ⌝ }
     ensures { λ r. ⌜ ((before : List Solution) → length before ≡ j → Reads (solution n before) any (now (text .entry)) (state c (now (index .entry)) (now (values .entry)) (now (rows .entry))) (now (index .exit)) (now (values .exit)) (now (rows .exit)) r) ⌝ }
 {
-    let s = symbols::read_row_name(text, c, 1024 + j, 0, rows);
+    let none = [0u16; 1];
+    let s = symbols::read_row_name(text, c, 1024 + j, 0, rows, &none);
     let Step::Next(_, d) = s else {
         return s;
     };

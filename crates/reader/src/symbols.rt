@@ -11,15 +11,15 @@ ghost use Prim.Native.Nat.{ℕ, _+_, _*_, _≤_, _<_, min};
 ghost use Rattle.fraction.specs.Outcome.{refuses};
 ghost use Rattle.value.specs.Promise.{valueSays};
 ghost use Rattle.grammar.specs.Refusals.{refusalNumber};
-ghost use Rattle.text.specs.Bytes.{same};
 ghost use Rattle.text.specs.Tokens.{rest};
 ghost use Rattle.grammar.specs.Format.{symbol, placed, word, number, choice, name, rowName};
 ghost use Rattle.grammar.specs.Format as F;
 ghost use Rattle.grammar.specs.Spelling.{isAmong, isName, meaningOf};
 ghost use Rattle.reader.specs.Steps.{state, IndexRoom, ValueRoom, RowRoom, Room, Reads, any, the};
-ghost use Rattle.reader.specs.Leaves.{numeralOf, namesIn, choicesOf, positionOf, startsWith};
+ghost use Rattle.reader.specs.Leaves.{numeralOf, namesIn, choicesOf, positionOf, startsWith, Fingerprinted};
 use crate::Cursor;
 use crate::Step;
+use crate::names;
 use fraction::Fraction;
 use grammar::Refusal;
 use text::Scan;
@@ -64,19 +64,18 @@ fn spelled(text: &[u8], from: usize, to: usize) -> Numeral
     Numeral::Number(n)
 }
 
-// x is one of the cells from .. to.
-fn is_listed(table: &[u16], from: usize, to: usize, x: u16) -> bool
+// x is one of the cells from .. to. The loop has no early end, so that it is compiled to compare several cells at once.
+pub(crate) fn is_listed(table: &[u16], from: usize, to: usize, x: u16) -> bool
     requires { ⌜ to ≤ length (now table) ⌝ }
     ensures { λ r. ⌜ r ≡ isAmong eqb x (slice from to (now (table .entry))) ⌝ }
 {
+    let mut found = false;
     let mut i = from;
     while i < to {
-        if x == table[i] {
-            return true;
-        }
+        found = found | (x == table[i]);
         i += 1;
     }
-    false
+    found
 }
 
 // Every byte of the token from .. to is one of 33 to 126.
@@ -96,23 +95,6 @@ fn is_name(text: &[u8], from: usize, to: usize) -> bool
         i += 1;
     }
     true
-}
-
-// The token from .. to is the name that the table has for one of the rows below `count`.
-fn is_used(text: &[u8], from: usize, to: usize, rows: &[u16], count: usize) -> bool
-    requires { ⌜ 4 * count ≤ length (now rows) ⌝ }
-    ensures { λ r. ⌜ r ≡ isAmong same (slice from to (now (text .entry))) (namesIn (now (text .entry)) (slice 0 (4 * count) (now (rows .entry)))) ⌝ }
-{
-    let mut i = 0;
-    while i < count {
-        let p = rows[4 * i] as usize;
-        let l = rows[4 * i + 1] as usize;
-        if text::is_word(text, from, to, text::part(text, p, p + l)) {
-            return true;
-        }
-        i += 1;
-    }
-    false
 }
 
 // The token from .. to is the j-th of some words.
@@ -279,15 +261,16 @@ fn write_row(rows: &mut [u16], row: usize, place: usize, size: usize, cells: usi
     rows[at + 3] = values as u16;
 }
 
-// A name for a row of the row table is due, none of those of the rows below `count`.
+// A name for a row of the row table is due, none of those of the rows below `count`, which have these fingerprints.
 pub(crate) fn read_row_name(
     text: &[u8],
     c: Cursor,
     row: usize,
     count: usize,
     rows: &mut [u16],
+    prints: &[u16],
 ) -> Step
-    requires { ⌜ RowRoom (now rows) × (length (now text) ≤ 32768) × (c .cells ≤ 16384) × (c .values ≤ 16384) × (row < 1088) × (count ≤ 1088) ⌝ }
+    requires { ⌜ RowRoom (now rows) × (length (now text) ≤ 32768) × (c .cells ≤ 16384) × (c .values ≤ 16384) × (row < 1088) × (count ≤ 1088) × Fingerprinted (now text) (now rows) count (now prints) ⌝ }
     ensures { λ r. ⌜ ((ix : List ℕ) (vs : List ℤ) → Room (now (text .entry)) (state c ix vs (now (rows .entry))) → Reads (symbol (rowName row (namesIn (now (text .entry)) (slice 0 (4 * count) (now (rows .entry)))))) any (now (text .entry)) (state c ix vs (now (rows .entry))) ix vs (now (rows .exit)) r) ⌝ }
 {
     let at = c.at;
@@ -298,7 +281,7 @@ pub(crate) fn read_row_name(
     if !is_name(text, from, to) {
         return Step::Stop(Refusal::WrongKind, from);
     }
-    if is_used(text, from, to, rows, count) {
+    if names::is_used(text, from, to, rows, count, prints) {
         return Step::Stop(Refusal::UsedBefore, from);
     }
     write_row(rows, row, from, to - from, c.cells, c.values);

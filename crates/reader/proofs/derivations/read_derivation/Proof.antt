@@ -17,7 +17,7 @@ use Rattle.reader.specs.Parts.{asReasons}
 use Rattle.reader.proofs.Laws.{next-is, stop-is, reads-on, then-stop, then-reads, view-stop, view-reads}
 
 abbrev start : tie.After-known-told → tie.Start
-start c = c .before .before .before .before .before .before .before .before .before .before .before .before .before .before .before
+start c = c .before .before .before .before .before .before .before .before .before .before .before .before .before .before .before .before
 
 abbrev used : tie.Start → List Bytes
 used s = namesIn (s .args .text .now) (slice 0 (4 * s .args .own) (s .args .rows .now))
@@ -38,8 +38,8 @@ rowed c = next-is (c .before .before .before .before .before .before .before .be
 
 read-row-requires : tie.Need-read-row-requires
 read-row-requires c κs =
-    let s = c .before .before .before .before .before .before in
-    (s .pre .0, s .pre .1, s .pre .2)
+    let s = c .before .before .before .before .before .before .before in
+    (s .pre .0, s .pre .1, s .pre .2, s .pre .4)
 
 enum-known-s : tie.Need-enum-known-s
 enum-known-s c = search needs

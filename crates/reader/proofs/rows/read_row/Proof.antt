@@ -13,7 +13,7 @@ use Rattle.reader.specs.Leaves.{namesIn}
 use Rattle.reader.proofs.Laws.{next-is, stop-is, reads-on, then-stop, then-any, view-stop, view-any}
 
 abbrev start : tie.After-read-row-name → tie.Start
-start c = c .before .before .before .before .before
+start c = c .before .before .before .before .before .before
 
 abbrev first : tie.Start → State
 first s = state (s .args .c) (s .args .index .now) (s .args .values .now) (s .args .rows .now)
@@ -40,9 +40,9 @@ name-went c = next-is (name-reads (named c)) (c .before .s .given .1)
 
 read-row-name-requires : tie.Need-read-row-name-requires
 read-row-name-requires c κs =
-    let s = c .before .before .before .before in
+    let s = c .before .before .before .before .before in
     let r = s .pre .0 in
-    (r .of-rows, r .of-index .short, omega (arith, r .of-index .cells-fit, r .of-index .inside, r .of-index .short), omega (arith, r .of-values .values-fit, r .of-index .inside, r .of-index .short), search needs, search needs)
+    (r .of-rows, r .of-index .short, omega (arith, r .of-index .cells-fit, r .of-index .inside, r .of-index .short), omega (arith, r .of-values .values-fit, r .of-index .inside, r .of-index .short), search needs, search needs, s .pre .3)
 
 enum-known-s : tie.Need-enum-known-s
 enum-known-s c = search needs

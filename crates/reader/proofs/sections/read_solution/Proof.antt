@@ -13,10 +13,11 @@ use Rattle.grammar.specs.Format.{symbol, rowName}
 use Rattle.reader.specs.Steps.{state, Reads, any}
 use Rattle.reader.specs.Leaves.{namesIn}
 use Rattle.reader.proofs.Laws.{next-is, stop-is, reads-on, then-stop, then-any, view-stop, view-any}
+use Rattle.reader.proofs.Fingerprints.{no-rows}
 use Rattle.reader.proofs.SectionLaws.{row-name-as}
 
 abbrev start : tie.After-read-row-name → tie.Start
-start c = c .before .before .before .before .before
+start c = c .before .before .before .before .before .before
 
 abbrev rows : tie.After-read-row-name → List ℕ
 rows c = c .read-row-name .last .1 .1 .1 .1 .0
@@ -33,11 +34,14 @@ name-reads c before e =
 add-read-row-name : tie.Need-add-read-row-name
 add-read-row-name c = search needs
 
+slice-aggregate-read-row-name : tie.Need-slice-aggregate-read-row-name
+slice-aggregate-read-row-name c = search needs
+
 read-row-name-requires : tie.Need-read-row-name-requires
 read-row-name-requires c κs =
-    let p = c .before .before .before .before .pre in
+    let p = c .before .before .before .before .before .pre in
     let i = p .0 .of-index in
-    (p .0 .of-rows, i .short, omega (arith, i .short, i .inside, i .cells-fit), omega (arith, i .short, i .inside, p .0 .of-values .values-fit), omega (arith, p .2), omega arith)
+    (p .0 .of-rows, i .short, omega (arith, i .short, i .inside, i .cells-fit), omega (arith, i .short, i .inside, p .0 .of-values .values-fit), omega (arith, p .2), omega arith, no-rows _ _ _)
 
 enum-known-s : tie.Need-enum-known-s
 enum-known-s c = search needs
@@ -80,6 +84,7 @@ read-solution-spec =
     tie.close
     (tie.spec
     add-read-row-name
+    slice-aggregate-read-row-name
     read-row-name-requires
     enum-known-s
     enum-told

@@ -12,7 +12,6 @@ use lib.Seq.{slice, sets}
 use Rattle.reader.proofs.symbols.read_row_name.Statement.{statement}
 use Rattle.reader.proofs.symbols.read_row_name.Tie as tie
 use Rattle.reader.proofs.symbols.is_name.Reads as is-name-reads
-use Rattle.reader.proofs.symbols.is_used.Reads as is-used-reads
 use Rattle.reader.proofs.symbols.write_row.Reads as write-row-reads
 use Rattle.text.proofs.next_token.Reads as next-token-reads
 use Rattle.text.specs.Bytes.{Bytes}
@@ -32,7 +31,7 @@ abbrev T : Type 0
 T = tie.After-known-told
 
 abbrev start : T → tie.Start
-start c = c .before .before .before .before .before .before
+start c = c .before .before .before .before .before .before .before
 
 abbrev from : T → ℕ
 from c = c .before .s .given .0 .0
@@ -60,7 +59,7 @@ enum-told c = search needs
 
 returns : tie.Need-returns
 returns c =
-    let s = c .before .before .before .before .before in
+    let s = c .before .before .before .before .before .before in
     λ ix vs room.
     reads-stop (symbol-end (rowName (s .args .row) (used s)) (s .args .text .now) (state (s .args .c) ix vs (s .args .rows .now)) (token-missing _ _ (c .before .before .next-token .ensures) (c .enum-told .given .1)))
 
@@ -78,7 +77,7 @@ returns-2 c =
 is-used-requires : tie.Need-is-used-requires
 is-used-requires c κs =
     let s = start (c .before .before .before) in
-    omega (arith, s .pre .0 .rows-long, s .pre .5)
+    (omega (arith, s .pre .0 .rows-long, s .pre .5), s .pre .6)
 
 same-length : tie.Need-same-length
 same-length c = search needs
@@ -110,8 +109,8 @@ write-row-requires c κs =
       omega (arith, s .pre .3),
     )
 
-add-t22 : tie.Need-add-t22
-add-t22 c =
+add-t23 : tie.Need-add-t23
+add-t23 c =
     let k = c .before .before .before .before .before .before .before .before .before in
     after-fits (token k) (start k .pre .1)
 
@@ -149,6 +148,6 @@ read-row-name-spec =
     returns-3
     sub-write-row
     write-row-requires
-    add-t22
+    add-t23
     same-length-2
     returns-4)

@@ -16,7 +16,7 @@ use Rattle.grammar.specs.Layout.{cells, values, Mark, symbolMarks, marksItems, 
 use Rattle.grammar.specs.Tables.{rowOf, laid}
 use Rattle.reader.specs.Steps.{State, nameAt, Named, Went}
 use Rattle.reader.specs.Leaves.{namesIn}
-use Rattle.reader.specs.Parts.{rowBody, justification}
+use Rattle.reader.specs.Parts.{rowBody, justification, derivationBut}
 use Rattle.reader.proofs.Tables.{sets-append}
 use Rattle.reader.proofs.Laws.{Loop}
 
@@ -50,7 +50,7 @@ laid-run r (m ∷ ms) table h =
     ∙ sym (sets-append (rowOf m) (rowsOf ms) table (4 * r))
 
 -- the names in the cells of whole rows, and in those after them
-names-append : (text : Bytes) (k : ℕ) (xs ys : List ℕ) → length xs ≡ 4 * k → namesIn text (xs ++ ys) ≡ namesIn text xs ++ namesIn text ys
+pub names-append : (text : Bytes) (k : ℕ) (xs ys : List ℕ) → length xs ≡ 4 * k → namesIn text (xs ++ ys) ≡ namesIn text xs ++ namesIn text ys
 names-append text k [] ys e = refl
 names-append text k (p ∷ []) ys e = absurd (let h : 1 ≡ 4 * k = e in omega arith)
 names-append text k (p ∷ l ∷ []) ys e = absurd (let h : 2 ≡ 4 * k = e in omega arith)
@@ -104,6 +104,13 @@ laid-beyond r (m ∷ ms) table h =
 -- what is kept of a format has one mark, in this row and with this name
 pub record OneMark {A : Type 0} (f : Format A) (own : ℕ) (name : A → Token) : Type 0 where
   pub is : (a : A) (i v : ℕ) → marks f a i v ≡ record { row = own; name = name a; cells = i; values = v } ∷ []
+
+-- reading it leaves the rows before its own as they were
+pub one-keeps : {A : Type 0} {f : Format A} {own : ℕ} {name : A → Token} → OneMark f own name → {a : A} {text : Bytes} {s t : State} → Went f a text s t → slice 0 (4 * own) (t .rows) ≡ slice 0 (4 * own) (s .rows)
+one-keeps {own = own} {name} h {a} {s = s} w =
+    let mark : Mark = record { row = own; name = name a; cells = s .cursor .cells; values = s .cursor .values } in
+    ap (slice 0 (4 * own)) (w .rows-is ∙ ap (laid (s .rows)) (h .is a (s .cursor .cells) (s .cursor .values)))
+    ∙ laid-beyond own (mark ∷ []) (s .rows) (omega arith, tt)
 
 -- each item has one mark: their rows are r, r + 1, ..
 pub record Marked {A : Type 0} (g : List A → Format A) (r : ℕ) (name : A → Token) : Type 0 where
@@ -234,7 +241,7 @@ unmarked-body n =
     unmarked-then (unmarked-symbol (λ a i v. refl))
     (λ s. unmarked-then (unmarked-symbol (λ a i v. refl)) (λ b. unmarked-view (unmarked-then (unmarked-or (unmarked-symbol (λ a i v. refl))) (unmarked-terms n))))
 
-one-row : (n own : ℕ) (used : List Bytes) → OneMark (row n own used) own (λ (x : Row). x .name)
+pub one-row : (n own : ℕ) (used : List Bytes) → OneMark (row n own used) own (λ (x : Row). x .name)
 one-row n own used = one-view (one-then (one-symbol own used) (λ t. unmarked-body n))
 
 -- the given rows have the rows from 0 on
@@ -258,15 +265,13 @@ unmarked-justification own total assumed =
     (λ o. unmarked-then (unmarked-view (unmarked-then (unmarked-symbol (λ a i v. refl)) (unmarked-detail own)))
     (λ q. unmarked-then (unmarked-symbol (λ a i v. refl)) (λ c. unmarked-view (unmarked-or (unmarked-symbol (λ a i v. refl))))))
 
+pub one-derivation : (n own total assumed : ℕ) (used : List Bytes) → OneMark (derivationBut n own total assumed used) own (λ (x : Derivation). x .row .name)
+one-derivation n own total assumed used = one-view (one-then (one-row n own used) (λ r. unmarked-justification own total assumed))
+
 -- after m given rows, the derivations have the rows from m on
 pub derivations-marked : (n m : ℕ) (names : List Bytes) (d : ℕ) → Marked (derivation n m names d) m (λ (x : Derivation). x .row .name)
 derivations-marked n m names d =
-    record {
-      one = λ before.
-          one-view
-          (one-then (one-row n (m + length before) (names ++ map (λ (x : Derivation). x .row .name .bytes) before))
-          (λ r. unmarked-justification (m + length before) (m + d) (assumptions before)));
-    }
+    record { one = λ before. one-derivation n (m + length before) (m + d) (assumptions before) (names ++ map (λ (x : Derivation). x .row .name .bytes) before) }
 
 -- ---- solutions
 

@@ -1,4 +1,4 @@
--- `reader::symbols::is_used` meets its contract. The invariant: the token is the name of a row below `count` exactly if it is the name of
+-- `reader::names::is_named` meets its contract. The invariant: the token is the name of a row below `count` exactly if it is the name of
 -- one from `i` on. The measure is how many rows are left.
 -- Assumes nothing.
 use mathlib.Core.Path.{_≡_, refl, sym, ap, _∙_}
@@ -10,8 +10,8 @@ use lib.Seq.{slice}
 use Rattle.text.specs.Bytes.{Bytes, same}
 use Rattle.reader.specs.Steps.{nameAt}
 use Rattle.reader.proofs.Turns.{Left, all-done, isNameIn, name-here, name-next}
-use Rattle.reader.proofs.symbols.is_used.Statement.{statement}
-use Rattle.reader.proofs.symbols.is_used.Tie as tie
+use Rattle.reader.proofs.names.is_named.Statement.{statement}
+use Rattle.reader.proofs.names.is_named.Tie as tie
 
 abbrev Inv-loop : tie.InvT-loop
 Inv-loop text from to rows count i₀ i = Left (isNameIn text (slice from to text)) rows (4 * i) (4 * count) (isNameIn text (slice from to text) (slice 0 (4 * count) rows))
@@ -92,8 +92,8 @@ loop-again c = name-next _ _ _ _ _ (at-loop (c .before) .loop .inv) (omega arith
 returns-2 : tie.Need-returns-2 Inv-loop μ-loop
 returns-2 c = all-done (c .before .loop .inv) (omega arith)
 
-pub is-used-spec : {M : Type 1} → statement M
-is-used-spec =
+pub is-named-spec : {M : Type 1} → statement M
+is-named-spec =
     tie.close
     (tie.spec
     Inv-loop
