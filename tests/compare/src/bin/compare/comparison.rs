@@ -140,11 +140,14 @@ impl Comparison {
             1 => text.bytes[place..].iter().take(self.prng.below(8)).copied().collect(),
             _ => edge_token(&mut self.prng),
         };
-        let (plain, other) = (own::read_value(&token), other::read_value(&token));
-        *self.values.entry(plain.err().unwrap_or(0)).or_default() += 1;
-        if plain != other {
+        let noise = (self.prng.next() as i32, self.prng.next() as i32);
+        let (mut stored, mut others) = (noise, noise);
+        let (plain, other) = (own::read_value(&token, &mut stored), other::read_value(&token, &mut others));
+        *self.values.entry(plain).or_default() += 1;
+        if (plain, stored) != (other, others) {
             let token = String::from_utf8_lossy(&token).into_owned();
-            self.differ(text, &format!("read_value of {token:?}: plain {plain:?}, other {other:?}"));
+            let what = format!("plain {plain} {stored:?}, other {other} {others:?}, {noise:?} before");
+            self.differ(text, &format!("read_value of {token:?}: {what}"));
         }
     }
 

@@ -69,13 +69,9 @@ mod linked {
         call(vipr_read_certificate, text, lent)
     }
 
-    pub fn read_value(token: &[u8]) -> Result<(i32, i32), u8> {
-        let (mut num, mut den) = (0, 0);
+    pub fn read_value(token: &[u8], stored: &mut (i32, i32)) -> u8 {
         // SAFETY: the token's pointer comes with its length; the others point to two numbers.
-        match unsafe { vipr_read_value(token.as_ptr(), token.len(), &mut num, &mut den) } {
-            0 => Ok((num, den)),
-            reason => Err(reason),
-        }
+        unsafe { vipr_read_value(token.as_ptr(), token.len(), &mut stored.0, &mut stored.1) }
     }
 
     pub fn show_token(text: &[u8], place: usize) -> usize {

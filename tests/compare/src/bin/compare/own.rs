@@ -17,8 +17,14 @@ pub fn read_certificate(text: &[u8], lent: &mut Lent) -> Answer {
     answer(plain::read_certificate(text, index, values, rows))
 }
 
-pub fn read_value(token: &[u8]) -> Result<(i32, i32), u8> {
-    plain::read_value(token).map(|value| (value.num(), value.den()))
+pub fn read_value(token: &[u8], stored: &mut (i32, i32)) -> u8 {
+    match plain::read_value(token) {
+        Ok(value) => {
+            *stored = (value.num(), value.den());
+            0
+        }
+        Err(reason) => reason,
+    }
 }
 
 pub fn show_token(text: &[u8], place: usize) -> usize {
