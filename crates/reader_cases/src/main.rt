@@ -232,6 +232,14 @@ fn out_of_range() {
         b"VER 1.0\nVAR 1\nx\nINT 1\n0\nOBJ max\n1 0 1\nCON 1 0\nR1 L 3 1 0 2\nRTP range 1 1\nSOL 1\na 1 0 1\nDER 1\nR1 L 1 OBJ { rnd 1 0 1/2 } -1\n",
     );
     case(
+        b"two names with one fingerprint",
+        b"VER 1.0\nVAR 1\nx\nINT 1\n0\nOBJ max\n1 0 1\nCON 2 0\nAa L 3 1 0 2\nBB L 3 1 0 2\nRTP range 1 1\nSOL 1\na 1 0 1\nDER 1\nCC L 1 OBJ { rnd 1 0 1/2 } -1\n",
+    );
+    case(
+        b"the first of them again",
+        b"VER 1.0\nVAR 1\nx\nINT 1\n0\nOBJ max\n1 0 1\nCON 2 0\nAa L 3 1 0 2\nBB L 3 1 0 2\nRTP range 1 1\nSOL 1\na 1 0 1\nDER 1\nAa L 1 OBJ { rnd 1 0 1/2 } -1\n",
+    );
+    case(
         b"one name over another",
         b"VER 1.0\nVAR 1\nx\nINT 1\n0\nOBJ max\n1 0 1\nCON 1 0\nR1 L 3 1 0 2\nRTP range 1 1\nSOL 1\na 1 0 1\nDER 1\nR L 1 OBJ { rnd 1 0 1/2 } -1\n",
     );
