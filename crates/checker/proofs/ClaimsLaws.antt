@@ -16,7 +16,7 @@ use Rattle.rules.specs.Domination.{isAbsurd, dominates}
 use Rattle.rules.specs.Solutions.{endToReach}
 use Rattle.rules.specs.Claims.{Asked, nothing, absurdity, domination, askedBy, asked, answers, isProved}
 use Rattle.checker.specs.Tables.{fractionAt}
-use Rattle.checker.specs.Held.{EndStands, EndIsThere, ClaimStands, ClaimIsThere, isMaximize, Stands}
+use Rattle.checker.specs.Held.{EndStands, EndIsThere, ClaimStands, ClaimIsThere, isMaximize, Stands, ClaimRead}
 use Rattle.checker.specs.Answers.{boundSays, endIn, against}
 use Rattle.checker.specs.declared.claims.Bound.{Bound}
 use Rattle.checker.specs.declared.tables.Frame.{Frame}
@@ -182,6 +182,9 @@ first-fails y e f = ap (λ (z : Bool). z && y) (sym f ∙ e)
 module _ {tree : Tree} {f : Frame} {index : List ℕ} {values : List ℤ} {rows : List ℕ} (h : Stands tree f index values rows) where
   pub maximize-is : f .maximize ≡ isMaximize (tree .objective .direction)
   maximize-is = ap (λ (g : Frame). g .maximize) (h .frame-is)
+
+  pub claim-read : ClaimRead tree f index values
+  claim-read = record { maximize-is = maximize-is; stands = h .claim-stands }
 
   pub absurd-is : {t : Bool} {c d : Constraint} → t ≡ isAbsurd (f .variables) c → c ≡ d → t ≡ isAbsurd (variables tree) d
   absurd-is e p = e ∙ ap₂ isAbsurd (variables-are h) p

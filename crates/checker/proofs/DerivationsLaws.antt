@@ -26,7 +26,7 @@ use Rattle.grammar.specs.Refusals.{refusalNumber}
 use Rattle.grammar.specs.declared.Refusal.{Refusal}
 use Rattle.rules.specs.Tests.{not-true}
 use Rattle.rules.specs.Result.{Result, done, refused, Verdict, fine, bind, _andThen_, require, each, eachFrom}
-use Rattle.rules.specs.Rows.{variables, Constraint, constraintOf, objectiveWith, givenRow, derivedRow, rowOf, noRow, entryAt, rowAt, valueIn}
+use Rattle.rules.specs.Rows.{objective, variables, Constraint, constraintOf, objectiveWith, givenRow, derivedRow, rowOf, noRow, entryAt, rowAt, valueIn}
 use Rattle.rules.specs.Domination.{dominates}
 use Rattle.rules.specs.Combinations.{suitableCombination}
 use Rattle.rules.specs.CombinationsLaws.{combines-fraction, gives-suitable}
@@ -190,12 +190,10 @@ module _ {tree : Tree} {f : Frame} {index : List ℕ} {values : List ℤ} {rows 
   dominates-row c d row e q =
       e ∙ ap (λ (n : ℕ). dominates n c d) (variables-are g) ∙ ap (dominates (variables tree) c) q
 
-  -- OBJ with the sense and the right side of a constraint of the code
-  pub objective-is : (c : declared.Constraint) → coefficientsOf (c .coefficients) ≡ valueIn (termsAt index values (f .objective))
-      → meant c ≡ objectiveWith tree (senseIs (c .sense)) (c .right)
-  unfolding objectiveWith
-  objective-is c e =
-      ap (λ (k : ℕ → Fraction). record { sense = senseIs (c .sense); coefficient = k; right = c .right }) (e ∙ ap valueIn (g .objective-is))
+-- OBJ with the sense and the right side of a constraint of the code
+pub objective-is : (tree : Tree) (c : declared.Constraint) → coefficientsOf (c .coefficients) ≡ valueIn (objective tree) → meant c ≡ objectiveWith tree (senseIs (c .sense)) (c .right)
+unfolding objectiveWith
+objective-is tree c e = ap (λ (k : ℕ → Fraction). record { sense = senseIs (c .sense); coefficient = k; right = c .right }) e
 
 -- ---- the rows that stand in cells
 

@@ -20,9 +20,8 @@ use Rattle.rules.specs.Rows.{Constraint, rowAt}
 use Rattle.rules.specs.Combinations.{Combination, signed, isSuitable, senseOf, combine, suitableCombination}
 use Rattle.constraint.specs.Signs.{signedNumber, senseBy, noneNegative, nonePositive, suitable-by, sense-by}
 use Rattle.checker.specs.Tables.{fractionAt, listedAt, aMultiplier, Listed}
-use Rattle.checker.specs.Held.{RowsStand}
+use Rattle.checker.specs.Held.{RowsFound}
 use Rattle.checker.specs.Answers.{within}
-use Rattle.checker.specs.declared.tables.Pairs.{Pairs}
 use Rattle.checker.proofs.TablesLaws.{listed-on, listed-next, listed-none}
 
 -- ---- a test of listed multipliers, one by one
@@ -58,11 +57,11 @@ module _ {index : List ℕ} {values : List ℤ} {test : Multiplier → Bool} {ta
       ∙ t .same
 
 -- where a loop over listed multipliers is: those left are in the tables, and for each tree both tests of them give those of all
-pub record Signing (index : List ℕ) (values : List ℤ) (rows : List ℕ) (objective : Pairs) (own : ℕ) (all : List Multiplier) (nonnegative nonpositive : Bool) (cell n left : ℕ) : Type 0 where
+pub record Signing (index : List ℕ) (values : List ℤ) (rows : List ℕ) (own : ℕ) (all : List Multiplier) (nonnegative nonpositive : Bool) (cell n left : ℕ) : Type 0 where
   pub listed : Listed index values own (record { cell = cell; number = n; count = left })
-  pub not-negative : (tree : Tree) → RowsStand tree index values rows objective own
+  pub not-negative : (tree : Tree) → RowsFound tree index values rows own
       → TestsLeft index values (λ m. not (isNegative (signed tree m))) (noneNegative tree all) nonnegative cell n left
-  pub not-positive : (tree : Tree) → RowsStand tree index values rows objective own
+  pub not-positive : (tree : Tree) → RowsFound tree index values rows own
       → TestsLeft index values (λ m. not (isPositive (signed tree m))) (nonePositive tree all) nonpositive cell n left
 
 at-least-zero : (z : ℤ) → leZ (pos 0) z ≡ not (ltZ z (pos 0))
@@ -75,19 +74,19 @@ at-most-zero (pos (suc n)) = leb·suc-zero n ∙ sym (ap not (leb·suc-suc 0 n �
 at-most-zero (negsuc n) = refl
 
 -- one multiplier more, whose number is this
-pub signing-on : {index : List ℕ} {values : List ℤ} {rows : List ℕ} {objective : Pairs} {own : ℕ} {all : List Multiplier} {nonnegative nonpositive : Bool} {cell n left : ℕ}
-    → Signing index values rows objective own all nonnegative nonpositive cell n left → 0 < left
+pub signing-on : {index : List ℕ} {values : List ℤ} {rows : List ℕ} {own : ℕ} {all : List Multiplier} {nonnegative nonpositive : Bool} {cell n left : ℕ}
+    → Signing index values rows own all nonnegative nonpositive cell n left → 0 < left
     → (z : ℤ) (factor : Fraction) → factor ≡ fractionAt values n
-    → ((tree : Tree) → RowsStand tree index values rows objective own → z ≡ signedNumber (rowAt tree (getD index cell 0) .sense) factor)
-    → Signing index values rows objective own all (nonnegative && leZ (pos 0) z) (nonpositive && leZ z (pos 0)) (cell + 1) (n + 1) (left - 1)
-signing-on {index} {values} {rows} {objective} {own} {cell = cell} {n = n} g h z factor q e =
+    → ((tree : Tree) → RowsFound tree index values rows own → z ≡ signedNumber (rowAt tree (getD index cell 0) .sense) factor)
+    → Signing index values rows own all (nonnegative && leZ (pos 0) z) (nonpositive && leZ z (pos 0)) (cell + 1) (n + 1) (left - 1)
+signing-on {index} {values} {rows} {own} {cell = cell} {n = n} g h z factor q e =
     record {
       listed = listed-on (g .listed) h;
       not-negative = λ tree stand. tests-on (g .not-negative tree stand) (leZ (pos 0) z) h (at-least-zero z ∙ ap (λ (x : ℤ). not (ltZ x (pos 0))) (number-is tree stand));
       not-positive = λ tree stand. tests-on (g .not-positive tree stand) (leZ z (pos 0)) h (at-most-zero z ∙ ap (λ (x : ℤ). not (ltZ (pos 0) x)) (number-is tree stand));
     }
   where
-    number-is : (tree : Tree) → RowsStand tree index values rows objective own → z ≡ signedNumber (rowAt tree (getD index cell 0) .sense) (fractionAt values n)
+    number-is : (tree : Tree) → RowsFound tree index values rows own → z ≡ signedNumber (rowAt tree (getD index cell 0) .sense) (fractionAt values n)
     number-is tree stand = e tree stand ∙ ap (signedNumber (rowAt tree (getD index cell 0) .sense)) q
 
 -- ---- the sign rule, then the combination

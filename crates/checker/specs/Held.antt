@@ -63,12 +63,26 @@ pub record RowStands (tree : Tree) (index : List ℕ) (values : List ℤ) (rows 
 abbrev pub RowIsThere : List ℕ → List ℤ → List ℕ → Pairs → ℕ → Type 0
 RowIsThere index values rows objective r = (tree : Tree) × ((row : Row) × RowStands tree index values rows objective r row)
 
+-- the same of the index table and the row table alone
+abbrev pub RowFound : Tree → List ℕ → List ℕ → ℕ → Row → Type 0
+RowFound tree index rows r row = (values : List ℤ) × ((objective : Pairs) × RowStands tree index values rows objective r row)
+
+abbrev pub RowIsFound : List ℕ → List ℕ → ℕ → Type 0
+RowIsFound index rows r = (tree : Tree) × ((row : Row) × RowFound tree index rows r row)
+
 -- the rows below a number stand in the tables, each as the certificate's row with its index
 abbrev pub RowsStand : Tree → List ℕ → List ℤ → List ℕ → Pairs → ℕ → Type 0
 RowsStand tree index values rows objective count = (r : ℕ) → r < count → RowStands tree index values rows objective r (rowAt tree r)
 
 abbrev pub RowsAreThere : List ℕ → List ℤ → List ℕ → Pairs → ℕ → Type 0
 RowsAreThere index values rows objective count = (tree : Tree) × RowsStand tree index values rows objective count
+
+-- the same wherever the objective's terms stand
+abbrev pub RowsFound : Tree → List ℕ → List ℤ → List ℕ → ℕ → Type 0
+RowsFound tree index values rows count = (objective : Pairs) × RowsStand tree index values rows objective count
+
+abbrev pub RowsAreFound : List ℕ → List ℤ → List ℕ → ℕ → Type 0
+RowsAreFound index values rows count = (tree : Tree) × RowsFound tree index values rows count
 
 -- ---- reasons
 
@@ -203,6 +217,11 @@ pub record Stands (tree : Tree) (f : Frame) (index : List ℕ) (values : List �
   pub solutions-stand : (j : ℕ) → j < f .solutions → SolutionStands index values rows j (solutionAt tree j)
   pub claim-stands : ClaimStands index values (f .claim) (f .ends) (tree .relation .claim)
 
+-- the part of that which the claim needs
+pub record ClaimRead (tree : Tree) (f : Frame) (index : List ℕ) (values : List ℤ) : Type 0 where
+  pub maximize-is : f .maximize ≡ isMaximize (tree .objective .direction)
+  pub stands : ClaimStands index values (f .claim) (f .ends) (tree .relation .claim)
+
 -- the tables hold some tree, whose frame this is
 abbrev pub Standing : Frame → List ℕ → List ℤ → List ℕ → Type 0
 Standing f index values rows = (tree : Tree) × Stands tree f index values rows
@@ -210,6 +229,13 @@ Standing f index values rows = (tree : Tree) × Stands tree f index values rows
 -- the index table and the row table are those of some tree, whose frame this is
 abbrev pub Found : Frame → List ℕ → List ℕ → Type 0
 Found f index rows = (values : List ℤ) × Standing f index values rows
+
+-- the row table is that of this tree, of some tree, whose frame this is
+abbrev pub RowsOf : Tree → Frame → List ℕ → Type 0
+RowsOf tree f rows = (index : List ℕ) × ((values : List ℤ) × Stands tree f index values rows)
+
+abbrev pub RowsOfOne : Frame → List ℕ → Type 0
+RowsOfOne f rows = (tree : Tree) × RowsOf tree f rows
 
 -- ---- the frame, read off
 

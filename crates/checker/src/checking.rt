@@ -11,7 +11,7 @@ ghost use Rattle.rules.specs.Derivations.{checkDerivation};
 ghost use Rattle.rules.specs.Claims.{lastRow, isProved, lastPlace};
 ghost use Rattle.rules.specs.Check.{checkOf};
 ghost use Rattle.reader.specs.Documents.{placesOf};
-ghost use Rattle.checker.specs.Held.{Held, FrameIsThere, frameAt, CertificateIsThere, Stands, Standing};
+ghost use Rattle.checker.specs.Held.{Held, FrameIsThere, frameAt, CertificateIsThere, Stands, Standing, RowsOf, RowsOfOne};
 ghost use Rattle.checker.specs.Answers.{verdictSays, bestSays};
 use crate::Verdict;
 use crate::claims;
@@ -58,9 +58,9 @@ fn frame_of(index: &[u16], places: Places) -> Frame
 }
 
 // "last row's name, or word `DER` if there are none".
-fn last_place(index: &[u16], values: &[i32], rows: &[u16], frame: Frame, word: usize) -> usize
-    requires { ⌜ Standing frame (now index) (now values) (now rows) ⌝ }
-    ensures { λ p. ⌜ ((tree : Tree) → Stands tree frame (now (index .entry)) (now (values .entry)) (now (rows .entry)) → p ≡ lastPlace word (lastRow tree)) ⌝ }
+fn last_place(rows: &[u16], frame: Frame, word: usize) -> usize
+    requires { ⌜ RowsOfOne frame (now rows) ⌝ }
+    ensures { λ p. ⌜ ((tree : Tree) → RowsOf tree frame (now (rows .entry)) → p ≡ lastPlace word (lastRow tree)) ⌝ }
 {
     if frame.derived == 0 {
         return word;
@@ -89,10 +89,7 @@ fn check_proof(
     if claims::is_proved(index, values, rows, frame) {
         Verdict::Fine
     } else {
-        Verdict::Refused(
-            Refusal::ClaimNotProved,
-            last_place(index, values, rows, frame, word),
-        )
+        Verdict::Refused(Refusal::ClaimNotProved, last_place(rows, frame, word))
     }
 }
 
@@ -106,7 +103,7 @@ pub(crate) fn check(index: &[u16], values: &[i32], rows: &[u16], places: Places)
     let Verdict::Fine = v else {
         return v;
     };
-    let bound = claims::end_to_reach(index, values, rows, frame);
+    let bound = claims::end_to_reach(index, values, frame);
     match objectives::objectives_of(index, values, rows, frame, bound.value) {
         Objectives::TooWide(place) => Verdict::Refused(Refusal::ResultTooWide, place),
         Objectives::Found(best) => {

@@ -12,7 +12,7 @@ ghost use Rattle.rules.specs.Solutions.{endToReach};
 ghost use Rattle.rules.specs.Assumptions.{assumptionsOf, isEmpty};
 ghost use Rattle.rules.specs.Claims.{asked, lastRow, lastPasses, isProved};
 ghost use Rattle.constraint.specs.Meaning.{senseIs};
-ghost use Rattle.checker.specs.Held.{EndStands, EndIsThere, ClaimStands, ClaimIsThere, isMaximize, Stands, Standing, Found};
+ghost use Rattle.checker.specs.Held.{EndStands, EndIsThere, ClaimStands, ClaimIsThere, ClaimRead, isMaximize, Stands, Standing, Found};
 ghost use Rattle.checker.specs.Answers.{boundSays, endIn, against, askedSays};
 use crate::assumptions;
 use crate::derivations;
@@ -77,17 +77,17 @@ fn end_of(index: &[u16], values: &[i32], claim: usize, ends: usize, upper: bool)
 }
 
 // The end that solutions are asked to reach: ub for min, lb for max.
-pub(crate) fn end_to_reach(index: &[u16], values: &[i32], rows: &[u16], frame: Frame) -> Bound
-    requires { ⌜ Standing frame (now index) (now values) (now rows) ⌝ }
-    ensures { λ b. ⌜ ((tree : Tree) → Stands tree frame (now (index .entry)) (now (values .entry)) (now (rows .entry)) → boundSays b ≡ endToReach (tree .objective .direction) (tree .relation .claim)) ⌝ }
+pub(crate) fn end_to_reach(index: &[u16], values: &[i32], frame: Frame) -> Bound
+    requires { ⌜ ClaimIsThere (now index) (now values) (frame .claim) (frame .ends) ⌝ }
+    ensures { λ b. ⌜ ((tree : Tree) → ClaimRead tree frame (now (index .entry)) (now (values .entry)) → boundSays b ≡ endToReach (tree .objective .direction) (tree .relation .claim)) ⌝ }
 {
     end_of(index, values, frame.claim, frame.ends, !frame.maximize)
 }
 
 // What the claim asks of the last row.
-fn asked_at(index: &[u16], values: &[i32], rows: &[u16], frame: Frame) -> Asked
-    requires { ⌜ Standing frame (now index) (now values) (now rows) ⌝ }
-    ensures { λ a. ⌜ ((tree : Tree) → Stands tree frame (now (index .entry)) (now (values .entry)) (now (rows .entry)) → askedSays tree a ≡ asked tree) ⌝ }
+fn asked_at(index: &[u16], values: &[i32], frame: Frame) -> Asked
+    requires { ⌜ ClaimIsThere (now index) (now values) (frame .claim) (frame .ends) ⌝ }
+    ensures { λ a. ⌜ ((tree : Tree) → ClaimRead tree frame (now (index .entry)) (now (values .entry)) → askedSays tree a ≡ asked tree) ⌝ }
 {
     let claim = frame.claim;
     if index[claim] == 0 {
@@ -159,7 +159,7 @@ fn last_dominates(
     let objective = frame.objective;
     let row = tables::constraint_at(index, values, rows, objective, last);
     let sense = sense_asked(frame.maximize);
-    let claimed = derivations::objective_with(index, values, rows, frame, sense, bound);
+    let claimed = derivations::objective_with(index, values, objective, sense, bound);
     if constraint::dominates(row, claimed, frame.variables) {
         is_free(index, rows, frame, last)
     } else {
@@ -172,7 +172,7 @@ pub(crate) fn is_proved(index: &[u16], values: &[i32], rows: &[u16], frame: Fram
     requires { ⌜ Standing frame (now index) (now values) (now rows) ⌝ }
     ensures { λ b. ⌜ ((tree : Tree) → Stands tree frame (now (index .entry)) (now (values .entry)) (now (rows .entry)) → b ≡ isProved tree) ⌝ }
 {
-    match asked_at(index, values, rows, frame) {
+    match asked_at(index, values, frame) {
         Asked::Nothing => true,
         Asked::Absurdity => last_is_absurd(index, values, rows, frame),
         Asked::Domination(bound) => last_dominates(index, values, rows, frame, bound),

@@ -8,13 +8,13 @@ ghost use lib.ListN.{length};
 ghost use Rattle.fraction.specs.declared.Fraction.{Fraction as FractionOf};
 ghost use Rattle.grammar.specs.Tree.{Unsplit, Tree};
 ghost use Rattle.rules.specs.Result.{require, each, eachFrom};
-ghost use Rattle.rules.specs.Rows.{Constraint as ConstraintOf, objectiveWith, entryAt, rowAt};
+ghost use Rattle.rules.specs.Rows.{objective, objectiveWith, entryAt, rowAt};
 ghost use Rattle.rules.specs.Solutions.{bestOf};
 ghost use Rattle.rules.specs.Combinations.{suitableCombination};
 ghost use Rattle.rules.specs.Derivations.{isSpent, named, checkDominates, checkLin, checkRnd, checkUns, checkSol, checkReason, checkDerivation};
 ghost use Rattle.rules.specs.Splits.{assumed, isProperSplit};
 ghost use Rattle.constraint.specs.Meaning.{senseIs, meant, VariablesAre};
-ghost use Rattle.checker.specs.Tables.{cellsAt, NamedBelow, multipliersAt, Listed, reasonAt};
+ghost use Rattle.checker.specs.Tables.{cellsAt, NamedBelow, termsAt, multipliersAt, Listed, reasonAt};
 ghost use Rattle.checker.specs.Held.{cellOf, multipliersOf, UnsplitStands, UnsplitIsThere, derivationAt, Stands, Standing, Found};
 ghost use Rattle.checker.specs.Answers.{checkSays, verdictSays, suitableSays, bestSays};
 use crate::Check;
@@ -24,6 +24,7 @@ use crate::suitable;
 use crate::suitable::Suitable;
 use crate::tables;
 use crate::tables::Frame;
+use crate::tables::Pairs;
 use constraint::Constraint;
 use constraint::Sense;
 use fraction::Fraction;
@@ -229,19 +230,18 @@ fn check_uns(
     check_dominates(index, values, rows, frame, own, d)
 }
 
-// OBJ with a sense and a right side.
+// OBJ with a sense and a right side, where its terms stand there.
 pub(crate) fn objective_with(
     index: &[u16],
     values: &[i32],
-    rows: &[u16],
-    frame: Frame,
+    terms: Pairs,
     sense: Sense,
     right: Fraction,
 ) -> Constraint
-    requires { ⌜ Standing frame (now index) (now values) (now rows) ⌝ }
-    ensures { λ c. ⌜ ((tree : Tree) → Stands tree frame (now (index .entry)) (now (values .entry)) (now (rows .entry)) → meant c ≡ objectiveWith tree (senseIs sense) right) ⌝ }
+    requires { ⌜ Listed (now index) (now values) 256 terms ⌝ }
+    ensures { λ c. ⌜ ((tree : Tree) → termsAt (now (index .entry)) (now (values .entry)) terms ≡ objective tree → meant c ≡ objectiveWith tree (senseIs sense) right) ⌝ }
 {
-    let coefficients = tables::coefficients_at(index, values, frame.objective);
+    let coefficients = tables::coefficients_at(index, values, terms);
     Constraint {
         coefficients: coefficients,
         right: right,
@@ -268,7 +268,7 @@ fn check_sol(
     if frame.maximize {
         sense = Sense::AtLeast;
     }
-    let by = objective_with(index, values, rows, frame, sense, best.value);
+    let by = objective_with(index, values, frame.objective, sense, best.value);
     check_dominates(index, values, rows, frame, own, by)
 }
 

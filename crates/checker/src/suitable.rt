@@ -9,7 +9,7 @@ ghost use Rattle.rules.specs.Values.{isPositive, isNegative};
 ghost use Rattle.rules.specs.Combinations.{signed, suitableCombination};
 ghost use Rattle.constraint.specs.Signs.{signedNumber};
 ghost use Rattle.checker.specs.Tables.{multipliersAt, Listed};
-ghost use Rattle.checker.specs.Held.{RowStands, RowIsThere, RowsStand, RowsAreThere};
+ghost use Rattle.checker.specs.Held.{RowFound, RowIsFound, RowsStand, RowsAreThere, RowsFound, RowsAreFound};
 ghost use Rattle.checker.specs.Answers.{checkSays, suitableSays};
 use crate::Check;
 use crate::combination;
@@ -32,16 +32,9 @@ pub(crate) struct Suitable {
 }
 
 // The numerator of a multiplier of row r times the row's sign.
-fn signed_at(
-    index: &[u16],
-    values: &[i32],
-    rows: &[u16],
-    objective: Pairs,
-    r: usize,
-    factor: Fraction,
-) -> i64
-    requires { ⌜ RowIsThere (now index) (now values) (now rows) objective r ⌝ }
-    ensures { λ n. ⌜ ((tree : Tree) (row : Row) → RowStands tree (now (index .entry)) (now (values .entry)) (now (rows .entry)) objective r row → n ≡ signedNumber (row .sense) factor) ⌝ }
+fn signed_at(index: &[u16], rows: &[u16], r: usize, factor: Fraction) -> i64
+    requires { ⌜ RowIsFound (now index) (now rows) r ⌝ }
+    ensures { λ n. ⌜ ((tree : Tree) (row : Row) → RowFound tree (now (index .entry)) (now (rows .entry)) r row → n ≡ signedNumber (row .sense) factor) ⌝ }
 {
     let cell = rows[4 * r + 2] as usize;
     let sense = tables::sense_at(index[cell]);
@@ -49,17 +42,10 @@ fn signed_at(
 }
 
 // The signs of the multipliers, which name rows below the row `own`.
-fn signs_of(
-    index: &[u16],
-    values: &[i32],
-    rows: &[u16],
-    objective: Pairs,
-    multipliers: Pairs,
-    own: usize,
-) -> Signs
-    requires { ⌜ RowsAreThere (now index) (now values) (now rows) objective own × Listed (now index) (now values) own multipliers ⌝ }
-    ensures nonnegative { λ s. ⌜ ((tree : Tree) → RowsStand tree (now (index .entry)) (now (values .entry)) (now (rows .entry)) objective own → s .nonnegative ≡ allOf (λ m. not (isNegative (signed tree m))) (multipliersAt (now (index .entry)) (now (values .entry)) multipliers)) ⌝ }
-    ensures nonpositive { λ s. ⌜ ((tree : Tree) → RowsStand tree (now (index .entry)) (now (values .entry)) (now (rows .entry)) objective own → s .nonpositive ≡ allOf (λ m. not (isPositive (signed tree m))) (multipliersAt (now (index .entry)) (now (values .entry)) multipliers)) ⌝ }
+fn signs_of(index: &[u16], values: &[i32], rows: &[u16], multipliers: Pairs, own: usize) -> Signs
+    requires { ⌜ RowsAreFound (now index) (now values) (now rows) own × Listed (now index) (now values) own multipliers ⌝ }
+    ensures nonnegative { λ s. ⌜ ((tree : Tree) → RowsFound tree (now (index .entry)) (now (values .entry)) (now (rows .entry)) own → s .nonnegative ≡ allOf (λ m. not (isNegative (signed tree m))) (multipliersAt (now (index .entry)) (now (values .entry)) multipliers)) ⌝ }
+    ensures nonpositive { λ s. ⌜ ((tree : Tree) → RowsFound tree (now (index .entry)) (now (values .entry)) (now (rows .entry)) own → s .nonpositive ≡ allOf (λ m. not (isPositive (signed tree m))) (multipliersAt (now (index .entry)) (now (values .entry)) multipliers)) ⌝ }
 {
     let mut nonnegative = true;
     let mut nonpositive = true;
@@ -69,7 +55,7 @@ fn signs_of(
     while 0 < left {
         let r = index[cell] as usize;
         let factor = tables::fraction_at(values, number);
-        let n = signed_at(index, values, rows, objective, r, factor);
+        let n = signed_at(index, rows, r, factor);
         nonnegative = nonnegative & (0 <= n);
         nonpositive = nonpositive & (n <= 0);
         cell += 1;
@@ -107,7 +93,7 @@ pub(crate) fn suitable_of(
     requires { ⌜ RowsAreThere (now index) (now values) (now rows) objective own × Listed (now index) (now values) own multipliers ⌝ }
     ensures { λ s. ⌜ ((tree : Tree) → RowsStand tree (now (index .entry)) (now (values .entry)) (now (rows .entry)) objective own → (place : ℕ) → suitableSays place s ≡ suitableCombination tree place (multipliersAt (now (index .entry)) (now (values .entry)) multipliers)) ⌝ }
 {
-    let s = signs_of(index, values, rows, objective, multipliers, own);
+    let s = signs_of(index, values, rows, multipliers, own);
     let sense = constraint::sense_of(s.nonnegative, s.nonpositive);
     let made = combination::combine(index, values, rows, objective, multipliers, own);
     let check = check_combination(s.nonnegative | s.nonpositive, made.fits);

@@ -3,6 +3,7 @@ use borrow.Author.Needs.{needs}
 use mathlib.Core.Path.{ap}
 use Rattle.reader.specs.declared.Places.{Places}
 use Rattle.checker.proofs.InOrder.{the-frame, frame-there, standing, solutions-refused, passed, wide-is, found-is, too-wide, not-reached, is-reached}
+use Rattle.checker.proofs.ClaimsLaws.{claim-read}
 use Rattle.checker.proofs.checking.check.Statement.{statement}
 use Rattle.checker.proofs.checking.check.Tie as tie
 
@@ -23,7 +24,7 @@ returns c = λ tree h e.
     solutions-refused tree (c .enum-told2 .given .1) (c .before .before .check-solutions .ensures tree (the-frame (c .before .before .before .frame-of .ensures) h e))
 
 end-to-reach-requires : tie.Need-end-to-reach-requires
-end-to-reach-requires c κs = standing (c .before .before .before .frame-of .ensures) (c .before .before .before .before .before .before .pre)
+end-to-reach-requires c κs = let p = standing (c .before .before .before .frame-of .ensures) (c .before .before .before .before .before .before .pre) in (p .0 .relation .claim, p .1 .claim-stands)
 
 objectives-of-requires : tie.Need-objectives-of-requires
 objectives-of-requires c κs = standing (c .before .before .before .before .frame-of .ensures) (c .before .before .before .before .before .before .before .pre)
@@ -38,7 +39,7 @@ returns-2 : tie.Need-returns-2
 returns-2 c = λ tree h e.
     let f = the-frame (c .before .before .before .before .before .before .before .before .before .before .before .frame-of .ensures) h e in
     let w = found-is tree _ (c .before .before .before .before .best .given .1) (c .before .before .before .before .before .before .objectives-of .ensures tree f) in
-    not-reached tree (passed (c .before .before .before .before .before .before .before .before .enum-told .given .1) (c .before .before .before .before .before .before .before .before .before .before .check-solutions .ensures tree f)) (c .before .before .before .before .before .before .before .end-to-reach .result) (c .before .before .before .before .before .before .before .end-to-reach .ensures tree f) _ w (c .if1 .taken)
+    not-reached tree (passed (c .before .before .before .before .before .before .before .before .enum-told .given .1) (c .before .before .before .before .before .before .before .before .before .before .check-solutions .ensures tree f)) (c .before .before .before .before .before .before .before .end-to-reach .result) (c .before .before .before .before .before .before .before .end-to-reach .ensures tree (claim-read f)) _ w (c .if1 .taken)
     (ap (λ (p : Places). p .relation) e)
 
 check-proof-requires : tie.Need-check-proof-requires
@@ -54,7 +55,7 @@ returns-4 : tie.Need-returns-4
 returns-4 c = λ tree h e.
     let f = the-frame (c .before .before .before .before .before .before .before .before .before .before .before .before .frame-of .ensures) h e in
     let w = found-is tree _ (c .before .before .before .before .before .best .given .1) (c .before .before .before .before .before .before .before .objectives-of .ensures tree f) in
-    is-reached tree (passed (c .before .before .before .before .before .before .before .before .before .enum-told .given .1) (c .before .before .before .before .before .before .before .before .before .before .before .check-solutions .ensures tree f)) (c .before .before .before .before .before .before .before .before .end-to-reach .result) (c .before .before .before .before .before .before .before .before .end-to-reach .ensures tree f) _ w (c .before .if1 .left)
+    is-reached tree (passed (c .before .before .before .before .before .before .before .before .before .enum-told .given .1) (c .before .before .before .before .before .before .before .before .before .before .before .check-solutions .ensures tree f)) (c .before .before .before .before .before .before .before .before .end-to-reach .result) (c .before .before .before .before .before .before .before .before .end-to-reach .ensures tree (claim-read f)) _ w (c .before .if1 .left)
     _ _ (ap (λ (p : Places). p .derivation) e) (c .check-proof .ensures tree (w .values) f (w .best-is))
 
 pub check-spec : {M : Type 1} → statement M

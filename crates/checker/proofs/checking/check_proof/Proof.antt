@@ -24,7 +24,7 @@ is-proved-requires : tie.Need-is-proved-requires
 is-proved-requires c κs = c .before .before .before .before .before .before .pre
 
 last-place-requires : tie.Need-last-place-requires
-last-place-requires c κs = c .before .before .before .before .before .before .before .before .pre
+last-place-requires c κs = let p = c .before .before .before .before .before .before .before .before .pre in (p .0, (_, (_, p .1)))
 
 returns-2 : tie.Need-returns-2
 returns-2 c = λ tree os h b.
@@ -36,7 +36,7 @@ returns-3 : tie.Need-returns-3
 returns-3 c = λ tree os h b.
     claim-not-proved tree os _
     (passed (c .before .before .before .enum-told .given .1) (c .before .before .before .before .before .check-derivations .ensures tree os h (variables-are h (c .before .before .before .before .before .before .integers-at .ensures tree (h .integers))) b))
-    (c .before .before .is-proved .ensures tree h) (c .before .if1 .left) (c .last-place .ensures tree h)
+    (c .before .before .is-proved .ensures tree h) (c .before .if1 .left) (c .last-place .ensures tree (_, (_, h)))
 
 pub check-proof-spec : {M : Type 1} → statement M
 check-proof-spec =

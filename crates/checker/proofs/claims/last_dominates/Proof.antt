@@ -46,13 +46,13 @@ is-free-requires c κs = ((c .before .before .before .before .before .before .be
 returns-2 : tie.Need-returns-2
 returns-2 c = λ tree h.
     both-pass (dominates-is h (c .before .before .dominates .ensures) (c .before .before .before .before .before .constraint-at .ensures tree _ (last-stands h (c .before .before .before .before .before .before .before .before .if1 .left)))
-    (c .before .before .before .objective-with .ensures tree h ∙ ap (λ (s : Sense). objectiveWith tree s (c .before .before .before .before .before .before .before .before .before .before .before .before .args .bound)) (c .before .before .before .before .sense-asked .ensures (tree .objective .direction) (maximize-is h)))) (c .before .if2 .taken) (c .is-free .ensures tree _ h)
+    (c .before .before .before .objective-with .ensures tree (h .objective-is) ∙ ap (λ (s : Sense). objectiveWith tree s (c .before .before .before .before .before .before .before .before .before .before .before .before .args .bound)) (c .before .before .before .before .sense-asked .ensures (tree .objective .direction) (maximize-is h)))) (c .before .if2 .taken) (c .is-free .ensures tree _ h)
     ∙ sym (last-passes h (asks tree (c .before .before .before .before .before .before .before .before .before .before .before .before .args .bound)) (omega (arith, c .before .before .before .before .before .before .before .before .if1 .left)))
 
 returns-3 : tie.Need-returns-3
 returns-3 c = λ tree h.
     first-fails _ (dominates-is h (c .before .dominates .ensures) (c .before .before .before .before .constraint-at .ensures tree _ (last-stands h (c .before .before .before .before .before .before .before .if1 .left)))
-    (c .before .before .objective-with .ensures tree h ∙ ap (λ (s : Sense). objectiveWith tree s (c .before .before .before .before .before .before .before .before .before .before .before .args .bound)) (c .before .before .before .sense-asked .ensures (tree .objective .direction) (maximize-is h)))) (c .if2 .left)
+    (c .before .before .objective-with .ensures tree (h .objective-is) ∙ ap (λ (s : Sense). objectiveWith tree s (c .before .before .before .before .before .before .before .before .before .before .before .args .bound)) (c .before .before .before .sense-asked .ensures (tree .objective .direction) (maximize-is h)))) (c .if2 .left)
     ∙ sym (last-passes h (asks tree (c .before .before .before .before .before .before .before .before .before .before .before .args .bound)) (omega (arith, c .before .before .before .before .before .before .before .if1 .left)))
 
 pub last-dominates-spec : {M : Type 1} → statement M

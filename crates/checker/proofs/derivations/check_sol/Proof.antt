@@ -26,7 +26,7 @@ returns-2 c =
     let a = c .before .before .before .before .before .before .before .args in
     let s = ⊎-elim (λ t. ap senseIs (t .1) ∙ towards-is h true (t .0 .taken)) (λ t. ap senseIs (t .1) ∙ towards-is h false (t .0 .left)) (c .before .before .if2 .came) in
     c .check-dominates .ensures tree h
-    ∙ sol-some tree (rowAt tree (a .own)) (a .best .any) (a .best .value) (not-false _ (c .before .before .before .if1 .left)) _ (c .before .objective-with .ensures tree h ∙ ap (λ (s : Sense). objectiveWith tree s (a .best .value)) s)
+    ∙ sol-some tree (rowAt tree (a .own)) (a .best .any) (a .best .value) (not-false _ (c .before .before .before .if1 .left)) _ (c .before .objective-with .ensures tree (h .objective-is) ∙ ap (λ (s : Sense). objectiveWith tree s (a .best .value)) s)
 
 pub check-sol-spec : {M : Type 1} → statement M
 check-sol-spec =

@@ -37,7 +37,8 @@ signed-multiplier-requires c κs = search needs
 
 returns : tie.Need-returns
 returns c =
-    λ tree row h.
+    λ tree row found.
+    let h = found .1 .1 in
     let back : toZ w64 (ofZ w64 (c .signed-multiplier .result)) ≡ c .signed-multiplier .result = search needs in
     back ∙ c .signed-multiplier .ensures ∙ ap (λ (s : Sense). signedNumber s (c .before .before .before .before .before .before .args .factor)) (c .before .sense-at .ensures (row .sense) (h .sense-is))
 

@@ -12,10 +12,10 @@ use Rattle.checker.proofs.suitable.signs_of.Statement.{statement}
 use Rattle.checker.proofs.suitable.signs_of.Tie as tie
 
 abbrev Inv-loop : tie.InvT-loop
-Inv-loop index values rows objective own nonnegative₀ nonpositive₀ cell₀ number₀ left₀ nonnegative nonpositive cell number left = Signing index values rows objective own (listedAt aMultiplier index values cell₀ number₀ left₀) nonnegative nonpositive cell number left
+Inv-loop index values rows own nonnegative₀ nonpositive₀ cell₀ number₀ left₀ nonnegative nonpositive cell number left = Signing index values rows own (listedAt aMultiplier index values cell₀ number₀ left₀) nonnegative nonpositive cell number left
 
 abbrev μ-loop : tie.MeasureT-loop
-μ-loop index values rows objective own nonnegative₀ nonpositive₀ cell₀ number₀ left₀ nonnegative nonpositive cell number left = left
+μ-loop index values rows own nonnegative₀ nonpositive₀ cell₀ number₀ left₀ nonnegative nonpositive cell number left = left
 
 loop-holds : tie.Need-loop-holds Inv-loop μ-loop
 loop-holds c = record { listed = c .before .before .pre .1; not-negative = λ tree stand. record { same = refl }; not-positive = λ tree stand. record { same = refl } }
@@ -35,7 +35,7 @@ fraction-at-requires c κs = omega (arith, c .before .before .loop .inv .listed 
 signed-at-requires : tie.Need-signed-at-requires Inv-loop μ-loop
 signed-at-requires c κs =
     let there = c .before .before .before .before .before .before .pre .0 in
-    (there .0, (rowAt (there .0) _, there .1 _ (listed-small (c .before .before .before .loop .inv .listed) (c .before .before .loop-test .taken))))
+    (there .0, (rowAt (there .0) _, (_, (there .1 .0, there .1 .1 _ (listed-small (c .before .before .before .loop .inv .listed) (c .before .before .loop-test .taken))))))
 
 add-cell : tie.Need-add-cell Inv-loop μ-loop
 add-cell c = search needs
@@ -54,7 +54,7 @@ loop-again c =
     let back : toZ w64 (ofZ w64 (c .signed-at .result)) ≡ c .signed-at .result = search needs in
     let g = c .before .before .before .before .loop .inv in
     let more = c .before .before .before .loop-test .taken in
-    signing-on g more _ _ (c .before .fraction-at .ensures) (λ tree stand. back ∙ c .signed-at .ensures tree _ (stand _ (listed-small (g .listed) more)))
+    signing-on g more _ _ (c .before .fraction-at .ensures) (λ tree stand. back ∙ c .signed-at .ensures tree _ (_, (stand .0, stand .1 _ (listed-small (g .listed) more))))
 
 returns : tie.Need-returns Inv-loop μ-loop
 returns c = (

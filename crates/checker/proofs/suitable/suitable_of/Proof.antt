@@ -7,7 +7,7 @@ use Rattle.checker.proofs.suitable.suitable_of.Statement.{statement}
 use Rattle.checker.proofs.suitable.suitable_of.Tie as tie
 
 signs-of-requires : tie.Need-signs-of-requires
-signs-of-requires c κs = search needs
+signs-of-requires c κs = let p = c .before .before .pre in ((p .0 .0, (_, p .0 .1)), p .1)
 
 sense-of-requires : tie.Need-sense-of-requires
 sense-of-requires c κs = search needs
@@ -24,8 +24,8 @@ returns c =
     let checked = c .before .before in
     let made = checked .before .before in
     let signs = made .before .before .signs-of in
-    let first = signs .ensures .0 tree stand in
-    let second = signs .ensures .1 tree stand in
+    let first = signs .ensures .0 tree (_, stand) in
+    let second = signs .ensures .1 tree (_, stand) in
     judged tree place _ (signs .result .nonnegative || signs .result .nonpositive) (made .combine .result .fits) _ (checked .check-combination .ensures place)
     (suitable-told tree _ first second refl)
     (sense-told tree _ first second (made .before .sense-of .ensures))
