@@ -4,7 +4,7 @@
 use mathlib.Core.Path.{_≡_, refl, sym, _∙_, ap, ap₂, subst}
 use mathlib.Core.Bool.{Bool, true, false, not, Bool·beq}
 use Prim.Native.Nat.{ℕ, zero, suc, _+_, _*_, _/_, _%_, _≤_, _<_, _∣_}
-use native.Mathlib.Nat.{zero-div, mul-pos, mul-assoc, mul-comm, mul-one, mul-left-comm, mul-div-cancel', div-mul-cancel, mul-div-assoc, dvd-refl, dvd-trans, dvd-mul-right, eq-one-of-dvd-one, pos-of-dvd-of-pos, mul-le-mul}
+use native.Mathlib.Nat.{zero-div, mul-pos, mul-assoc, mul-comm, mul-one, mul-left-comm, mul-div-cancel', div-mul-cancel, mul-div-assoc, dvd-refl, dvd-trans, dvd-mul-right, pos-of-dvd-of-pos, mul-le-mul}
 use native.Mathlib.Omega.{arith}
 use lib.IntN.{ℤ, pos, negsuc, negℤ, natAbs, _+ℤ_, _*ℤ_}
 use lib.Signed.{quotZ}
@@ -13,7 +13,7 @@ use mir.Val.{SFits}
 use Rattle.integers.specs.Signs.{isNegative, withSign, natAbs-withSign, natAbs-mul, natAbs-add, mag-natAbs, product-sign}
 use Rattle.integers.specs.Integers.{ring, *ℤ-neg-l, *ℤ-pos-one}
 use Rattle.integers.specs.Gcd.{gcd, gcd-left, gcd-right, gcd-positive, gcd-step}
-use Rattle.integers.specs.Coprime.{Coprime, coprime-of, coprime-sym, coprime-parts, coprime-quotients, gcd-coprime-factor, exchange, product-coprime, sum-coprime}
+use Rattle.integers.specs.Coprime.{Coprime, coprime-one, coprime-sym, coprime-parts, coprime-quotients, gcd-coprime-factor, exchange, product-coprime, sum-coprime}
 use Rattle.fraction.specs.Quotient.{Quotient, _≈_, _+Q_, _*Q_, lowest}
 use Rattle.fraction.specs.QuotientLaws.{Positive, quotient-positive, lowest-is, lowest-cong}
 use Rattle.fraction.specs.Fraction.{limit}
@@ -48,9 +48,6 @@ pub divisor-positive-left : (a b g : ℕ) → 0 < a → g ≡ gcd a b → 0 < g
 divisor-positive-left a b g h e = subst (λ (k : ℕ). 0 < k) (sym e) (pos-of-dvd-of-pos (gcd-left a b) h)
 
 -- ---- whole numbers
-
-coprime-one : (a : ℕ) → Coprime a 1
-coprime-one a = coprime-of a 1 (λ k p q. eq-one-of-dvd-one q)
 
 -- x is whole already
 whole-lowest : (z : ℤ) (x : Quotient) → x .top ≡ z → x .bottom ≡ 1 → over z 1 ≡ lowest x

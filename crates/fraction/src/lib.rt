@@ -6,6 +6,7 @@ ghost use Prim.Native.Nat.{ℕ, _*_, _≤_, _<_};
 ghost use lib.IntN.{ℤ, pos, natAbs, _*ℤ_, _+ℤ_};
 ghost use lib.Signed.{_<ℤ_};
 ghost use Rattle.integers.specs.Gcd.{gcd as gcdOf};
+ghost use Rattle.integers.specs.Binary.{Odd};
 ghost use Rattle.integers.specs.Signs.{withSign};
 ghost use Rattle.fraction.specs.Quotient.{_+Q_, _*Q_, lowest, floorZ, ceilingZ};
 ghost use Rattle.fraction.specs.Fraction.{limit, isFraction, within as withinOf, reducedOf, productOf, sumOf, compareOf, order, floorOf, ceilingOf, arithmeticSays, comparisonSays, roundingSays};
@@ -42,32 +43,48 @@ pub enum Rounding {
     NotAFraction,
 }
 
-// The greatest common divisor, by Euclid's loop.
-fn gcd(a: u32, b: u32) -> u32
+// The greatest common divisor of odd numbers: the lesser is taken off the greater, and what is left is halved until it is odd.
+// The wrapped difference has as many zeros at its end as the difference, so they are counted while the numbers are compared.
+fn gcd_odd(a: u64, b: u64) -> u64
+    requires { ⌜ Odd a × Odd b ⌝ }
     ensures { λ r. ⌜ r ≡ gcdOf a b ⌝ }
 {
     let mut x = a;
     let mut y = b;
-    while y != 0 {
-        let t = x % y;
-        x = y;
-        y = t;
+    while x != y {
+        let t = u64::trailing_zeros(std::num::wrapping_sub_u64(x, y));
+        if x < y {
+            y = (y - x) >> t;
+        } else {
+            let z = x - y;
+            x = y;
+            y = z >> t;
+        }
     }
     x
 }
 
-// The same, of numbers of 64 bits.
+// The greatest common divisor. Of the powers of two that divide a and b, the lesser divides both.
 fn gcd_wide(a: u64, b: u64) -> u64
     ensures { λ r. ⌜ r ≡ gcdOf a b ⌝ }
 {
-    let mut x = a;
-    let mut y = b;
-    while y != 0 {
-        let t = x % y;
-        x = y;
-        y = t;
+    if a == 0 {
+        return b;
     }
-    x
+    if b == 0 {
+        return a;
+    }
+    let i = u64::trailing_zeros(a);
+    let j = u64::trailing_zeros(b);
+    let g = gcd_odd(a >> i, b >> j);
+    if i < j { g << i } else { g << j }
+}
+
+// The same, of numbers of 32 bits.
+fn gcd(a: u32, b: u32) -> u32
+    ensures { λ r. ⌜ r ≡ gcdOf a b ⌝ }
+{
+    gcd_wide(a as u64, b as u64) as u32
 }
 
 fn magnitude_wide(x: i64) -> u64

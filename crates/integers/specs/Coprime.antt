@@ -20,6 +20,9 @@ Coprime a b = gcd a b ≡ 1
 pub coprime-of : (a b : ℕ) → ((k : ℕ) → k ∣ a → k ∣ b → k ≡ 1) → Coprime a b
 coprime-of a b f = f (gcd a b) (gcd-left a b) (gcd-right a b)
 
+pub coprime-one : (a : ℕ) → Coprime a 1
+coprime-one a = coprime-of a 1 (λ k p q. eq-one-of-dvd-one q)
+
 pub coprime-common : (a b k : ℕ) → Coprime a b → k ∣ a → k ∣ b → k ≡ 1
 coprime-common a b k e p q = eq-one-of-dvd-one (subst (λ (n : ℕ). k ∣ n) e (gcd-greatest a b k p q))
 

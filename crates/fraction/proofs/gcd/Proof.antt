@@ -1,31 +1,19 @@
--- `fraction::gcd` meets its contract. Invariant: the greatest common divisor of x and y is that of a and b; y falls.
-use mathlib.Core.Path.{_≡_, refl, sym, _∙_, ap}
+-- `fraction::gcd` meets its contract: a common divisor of numbers of 32 bits has no more.
+use borrow.Author.Needs.{needs}
 use native.Mathlib.Omega.{arith}
-use native.Mathlib.Nat.{mod-lt}
 use Rattle.fraction.proofs.gcd.Statement.{statement}
 use Rattle.fraction.proofs.gcd.Tie as tie
-use Rattle.integers.specs.Gcd.{gcd, gcd-zero, gcd-step}
+use Rattle.fraction.proofs.gcd_wide.Reads as gcd-wide-reads
+use Rattle.integers.specs.Binary.{gcd-below}
 
-abbrev Inv-loop : tie.InvT-loop
-Inv-loop a b x₀ y₀ x y = gcd x y ≡ gcd a b
+gcd-wide-requires : tie.Need-gcd-wide-requires
+gcd-wide-requires c κs = search needs
 
-abbrev μ-loop : tie.MeasureT-loop
-μ-loop a b x₀ y₀ x y = y
+cast-result : tie.Need-cast-result
+cast-result c = record { fits = omega (arith, c .gcd-wide .ensures, gcd-below (c .before .args .a) (c .before .args .b) 4294967296 (omega arith) (omega arith)) }
 
-loop-holds : tie.Need-loop-holds Inv-loop μ-loop
-loop-holds c = refl
-
-rem-t : tie.Need-rem-t Inv-loop μ-loop
-rem-t c = omega arith
-
-loop-less : tie.Need-loop-less Inv-loop μ-loop
-loop-less c = mod-lt _ (omega arith)
-
-loop-again : tie.Need-loop-again Inv-loop μ-loop
-loop-again c = sym (gcd-step _ _ (omega arith)) ∙ c .before .loop .inv
-
-returns : tie.Need-returns Inv-loop μ-loop
-returns c = sym (gcd-zero _) ∙ ap (gcd (c .before .loop .x)) (sym (omega arith)) ∙ c .before .loop .inv
+returns : tie.Need-returns
+returns c = search needs
 
 pub gcd-spec : {M : Type 1} → statement M
-gcd-spec = tie.close (tie.spec Inv-loop μ-loop loop-holds rem-t loop-less loop-again returns)
+gcd-spec = tie.close (tie.spec gcd-wide-requires cast-result returns)
