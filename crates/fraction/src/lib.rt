@@ -6,7 +6,7 @@ ghost use Prim.Native.Nat.{ℕ, _*_, _≤_, _<_};
 ghost use lib.IntN.{ℤ, pos, natAbs, _*ℤ_, _+ℤ_};
 ghost use lib.Signed.{_<ℤ_};
 ghost use Rattle.integers.specs.Gcd.{gcd as gcdOf};
-ghost use Rattle.integers.specs.Binary.{Odd};
+ghost use Rattle.integers.specs.Binary.{Odd, oddOf, Narrow, Paired, Stepped, Going};
 ghost use Rattle.integers.specs.Signs.{withSign};
 ghost use Rattle.fraction.specs.Quotient.{_+Q_, _*Q_, lowest, floorZ, ceilingZ};
 ghost use Rattle.fraction.specs.Fraction.{limit, isFraction, within as withinOf, reducedOf, productOf, sumOf, compareOf, order, floorOf, ceilingOf, arithmeticSays, comparisonSays, roundingSays};
@@ -64,7 +64,44 @@ fn gcd_odd(a: u64, b: u64) -> u64
     x
 }
 
-// The greatest common divisor. Of the powers of two that divide a and b, the lesser divides both.
+// Two numbers whose greatest common divisor is wanted.
+struct Pair {
+    x: u64,
+    y: u64,
+}
+
+fn paired(a: u32, b: u32) -> Pair
+    ensures { λ r. ⌜ (r .x ≡ a) × (r .y ≡ b) ⌝ }
+{
+    Pair {
+        x: a as u64,
+        y: b as u64,
+    }
+}
+
+// Both without their factors of two.
+fn odd(p: Pair) -> Pair
+    requires { ⌜ (0 < p .x) × (0 < p .y) ⌝ }
+    ensures { λ r. ⌜ (r .x ≡ oddOf (p .x)) × (r .y ≡ oddOf (p .y)) ⌝ }
+{
+    let x = p.x;
+    let y = p.y;
+    Pair {
+        x: x >> u64::trailing_zeros(x),
+        y: y >> u64::trailing_zeros(y),
+    }
+}
+
+// The greatest common divisor from that of the odd numbers: of the powers of two that divide x and y, the lesser divides both.
+fn with_twos(p: Pair, g: u64) -> u64
+    requires { ⌜ (0 < p .x) × (0 < p .y) × (g ≡ gcdOf (oddOf (p .x)) (oddOf (p .y))) ⌝ }
+    ensures { λ r. ⌜ r ≡ gcdOf (p .x) (p .y) ⌝ }
+{
+    let i = u64::trailing_zeros(p.x);
+    let j = u64::trailing_zeros(p.y);
+    if i < j { g << i } else { g << j }
+}
+
 fn gcd_wide(a: u64, b: u64) -> u64
     ensures { λ r. ⌜ r ≡ gcdOf a b ⌝ }
 {
@@ -74,17 +111,74 @@ fn gcd_wide(a: u64, b: u64) -> u64
     if b == 0 {
         return a;
     }
-    let i = u64::trailing_zeros(a);
-    let j = u64::trailing_zeros(b);
-    let g = gcd_odd(a >> i, b >> j);
-    if i < j { g << i } else { g << j }
+    let p = Pair { x: a, y: b };
+    let o = odd(p);
+    with_twos(p, gcd_odd(o.x, o.y))
 }
 
-// The same, of numbers of 32 bits.
 fn gcd(a: u32, b: u32) -> u32
     ensures { λ r. ⌜ r ≡ gcdOf a b ⌝ }
 {
     gcd_wide(a as u64, b as u64) as u32
+}
+
+// One step of `gcds`. The sum with 2^32 has as many zeros at its end as the difference of x and y, where there is one.
+fn step(p: Pair) -> Pair
+    requires { ⌜ Paired 4294967296 (p .x) (p .y) ⌝ }
+    ensures { λ r. ⌜ Stepped 4294967296 (p .x) (p .y) (r .x) (r .y) ⌝ }
+{
+    let x = p.x;
+    let y = p.y;
+    let t = u64::trailing_zeros(x + 4294967296 - y);
+    if x < y {
+        Pair {
+            x: (y - x) >> t,
+            y: x,
+        }
+    } else {
+        Pair {
+            x: (x - y) >> t,
+            y: y,
+        }
+    }
+}
+
+// The greatest common divisor of a, where p has come to the end of the steps.
+fn reached(a: Pair, p: Pair) -> u32
+    requires { ⌜ Narrow (a .x) (a .y) × Going (a .x) (a .y) (p .x) (p .y) × (p .y ≡ 0) ⌝ }
+    ensures { λ r. ⌜ r ≡ gcdOf (a .x) (a .y) ⌝ }
+{
+    with_twos(a, p.x) as u32
+}
+
+struct Divisors {
+    a: u32,
+    b: u32,
+    c: u32,
+    d: u32,
+}
+
+// Four greatest common divisors in one loop. Their steps do not wait for each other, and the loop ends only once.
+fn gcds(a: Pair, b: Pair, c: Pair, d: Pair) -> Divisors
+    requires { ⌜ (Narrow (a .x) (a .y) × Narrow (b .x) (b .y)) × (Narrow (c .x) (c .y) × Narrow (d .x) (d .y)) ⌝ }
+    ensures { λ r. ⌜ ((r .a ≡ gcdOf (a .x) (a .y)) × (r .b ≡ gcdOf (b .x) (b .y))) × ((r .c ≡ gcdOf (c .x) (c .y)) × (r .d ≡ gcdOf (d .x) (d .y))) ⌝ }
+{
+    let mut p = odd(a);
+    let mut q = odd(b);
+    let mut r = odd(c);
+    let mut s = odd(d);
+    while p.y + q.y + r.y + s.y != 0 {
+        p = step(p);
+        q = step(q);
+        r = step(r);
+        s = step(s);
+    }
+    Divisors {
+        a: reached(a, p),
+        b: reached(b, q),
+        c: reached(c, r),
+        d: reached(d, s),
+    }
 }
 
 fn magnitude_wide(x: i64) -> u64

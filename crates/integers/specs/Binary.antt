@@ -5,8 +5,8 @@ use mathlib.Core.Path.{_≡_, refl, sym, _∙_, ap, ap₂, subst}
 use mathlib.Core.Bool.{Bool, true, false}
 use mathlib.Core.Logic.{_⊎_, inl, inr}
 use Prim.Native.Nat.{ℕ, zero, suc, _+_, _*_, _-_, _/_, _%_, _^_, _≤_, _<_, _∣_}
-use native.Mathlib.Nat.{dvd-add, dvd-sub, dvd-antisymm, dvd-refl, le-of-dvd, zero-lt-suc, sub-add-cancel}
-use native.Mathlib.Nat.{mul-one, mul-assoc, mul-comm, mul-sub, div-one, pow-suc, div-div-eq-div-mul, mod-eq-of-lt, mod-eq-sub-mod}
+use native.Mathlib.Nat.{dvd-add, dvd-sub, dvd-antisymm, dvd-refl, dvd-trans, dvd-mul-left, dvd-mul-right, le-of-dvd, zero-lt-suc, sub-add-cancel}
+use native.Mathlib.Nat.{mul-one, mul-assoc, mul-comm, mul-sub, div-one, zero-div, pow-suc, div-div-eq-div-mul, mod-eq-of-lt, mod-eq-sub-mod}
 use native.Mathlib.Omega.{arith}
 use borrow.Author.Tests.{ltb-true, ltb-false}
 use lib.Dec.{ltb}
@@ -56,14 +56,28 @@ power-split k t h =
 sub-mul : (a b c : ℕ) → (a - b) * c ≡ a * c - b * c
 sub-mul a b c = mul-comm (a - b) c ∙ mul-sub c a b ∙ ap₂ (λ (x y : ℕ). x - y) (mul-comm c a) (mul-comm c b)
 
-twos-turned : (k d t : ℕ) → d ≤ 2 ^ k → Twos k d t → Twos k (2 ^ k - d) t
-twos-turned k d t h w =
-    let top = 2 ^ (k - suc t) * 2 in
-    let m = d / 2 ^ t in
-    let below : m ≤ top = subst (λ (n : ℕ). m ≤ n) (ap (λ (n : ℕ). n / 2 ^ t) (power-split k t (w .below)) ∙ shl-shr top t) (shr-mono t h) in
-    let whole : 2 ^ k - d ≡ (top - m) * 2 ^ t = ap₂ (λ (a b : ℕ). a - b) (power-split k t (w .below)) (sym (w .product)) ∙ sym (sub-mul top m (2 ^ t)) in
-    let rest : (2 ^ k - d) / 2 ^ t ≡ top - m = ap (λ (n : ℕ). n / 2 ^ t) whole ∙ shl-shr (top - m) t in
-    record { below = w .below; product = rw rest (sym whole); rest-odd = rw rest (omega (arith, w .rest-odd)) }
+module _ (k j d t : ℕ) (l : t < j) (w : Twos k d t) where
+  abbrev top : ℕ
+  top = 2 ^ (j - suc t) * 2
+
+  quotient : 2 ^ j / 2 ^ t ≡ top
+  quotient = ap (λ (n : ℕ). n / 2 ^ t) (power-split j t l) ∙ shl-shr top t
+
+  twos-turned : d ≤ 2 ^ j → Twos k (2 ^ j - d) t
+  twos-turned h =
+      let m = d / 2 ^ t in
+      let below : m ≤ top = subst (λ (n : ℕ). m ≤ n) quotient (shr-mono t h) in
+      let whole : 2 ^ j - d ≡ (top - m) * 2 ^ t = ap₂ (λ (a b : ℕ). a - b) (power-split j t l) (sym (w .product)) ∙ sym (sub-mul top m (2 ^ t)) in
+      let rest : (2 ^ j - d) / 2 ^ t ≡ top - m = ap (λ (n : ℕ). n / 2 ^ t) whole ∙ shl-shr (top - m) t in
+      record { below = w .below; product = rw rest (sym whole); rest-odd = rw rest (omega (arith, w .rest-odd)) }
+
+  twos-lowered : 2 ^ j ≤ d → Twos k (d - 2 ^ j) t
+  twos-lowered h =
+      let m = d / 2 ^ t in
+      let below : top ≤ m = subst (λ (n : ℕ). n ≤ m) quotient (shr-mono t h) in
+      let whole : d - 2 ^ j ≡ (m - top) * 2 ^ t = ap₂ (λ (a b : ℕ). a - b) (sym (w .product)) (power-split j t l) ∙ sym (sub-mul m top (2 ^ t)) in
+      let rest : (d - 2 ^ j) / 2 ^ t ≡ m - top = ap (λ (n : ℕ). n / 2 ^ t) whole ∙ shl-shr (m - top) t in
+      record { below = w .below; product = rw rest (sym whole); rest-odd = rw rest (omega (arith, w .rest-odd)) }
 
 -- d is x - y, wrapped at 2 ^ k
 module _ (k x y d : ℕ) (hx : x < 2 ^ k) (hy : y < 2 ^ k) (hd : d < 2 ^ k) (e : (d + y) % 2 ^ k ≡ x) where
@@ -90,7 +104,41 @@ module _ (k x y d : ℕ) (hx : x < 2 ^ k) (hy : y < 2 ^ k) (hd : d < 2 ^ k) (e :
     where
       go : (d + y ≡ x) ⊎ (d + y ≡ x + 2 ^ k) → Twos k (y - x) (trailingZeros k d)
       go (inl w) = absurd (omega arith)
-      go (inr w) = let same : y - x ≡ 2 ^ k - d = omega arith in rw same (twos-turned k d _ (omega arith) (twos k d (omega arith) hd))
+      go (inr w) = let same : y - x ≡ 2 ^ k - d = omega arith in let w′ = twos k d (omega arith) hd in rw same (twos-turned k k d _ (w′ .below) w′ (omega arith))
+
+-- d is x - y more than 2 ^ j, and x and y are below 2 ^ j
+power-divides : (j t : ℕ) → j ≤ t → 2 ^ j ∣ 2 ^ t
+power-divides j t h =
+    let e : j + (t - j) ≡ t = omega arith in
+    subst (λ (n : ℕ). 2 ^ j ∣ n) (sym (pow-add 2 j (t - j)) ∙ ap (λ (n : ℕ). 2 ^ n) e) (dvd-mul-right (2 ^ j) (2 ^ (t - j)))
+
+fewer : (k j n d t : ℕ) → 0 < n → n < 2 ^ j → Twos k d t → (2 ^ j ∣ d → 2 ^ j ∣ n) → t < j
+fewer k j n d t p h w f = go (ltb t j) refl
+  where
+    go : (b : Bool) → ltb t j ≡ b → t < j
+    go true e = ltb-true t j e
+    go false e =
+        let all : 2 ^ j ∣ d = dvd-trans (2 ^ j) (power-divides j t (ltb-false t j e)) (subst (λ (m : ℕ). 2 ^ t ∣ m) (w .product) (dvd-mul-left (2 ^ t) (d / 2 ^ t))) in
+        absurd (omega (arith, le-of-dvd p (f all)))
+
+module _ (k j x y d : ℕ) (hx : x < 2 ^ j) (hy : y < 2 ^ j) (e : d ≡ x + 2 ^ j - y) (hd : d < 2 ^ k) where
+  zeros : Twos k d (trailingZeros k d)
+  zeros = twos k d (omega arith) hd
+
+  pub zeros-below : trailingZeros k d < k
+  zeros-below = zeros .below
+
+  pub zeros-greater : y < x → Twos k (x - y) (trailingZeros k d)
+  zeros-greater h =
+      let same : x - y ≡ d - 2 ^ j = omega arith in
+      let l = fewer k j (x - y) d _ (omega arith) (omega arith) zeros (λ a. subst (λ (n : ℕ). 2 ^ j ∣ n) (sym same) (dvd-sub _ a (dvd-refl (2 ^ j)))) in
+      rw same (twos-lowered k j d _ l zeros (omega arith))
+
+  pub zeros-less : x < y → Twos k (y - x) (trailingZeros k d)
+  zeros-less h =
+      let same : y - x ≡ 2 ^ j - d = omega arith in
+      let l = fewer k j (y - x) d _ (omega arith) (omega arith) zeros (λ a. subst (λ (n : ℕ). 2 ^ j ∣ n) (sym same) (dvd-sub _ (dvd-refl (2 ^ j)) a)) in
+      rw same (twos-turned k j d _ l zeros (omega arith))
 
 -- ---- the rules
 
@@ -174,3 +222,111 @@ gcd-shifted k a b i j ha hb v w l =
     let back : gcd (a / 2 ^ i) (b / 2 ^ j) * 2 ^ i ≡ gcd a b =
     sym (gcd-twos (a / 2 ^ i) (b / 2 ^ j) i (j - i) (v .rest-odd)) ∙ ap₂ gcd (v .product) (ap (λ (n : ℕ). b / 2 ^ j * 2 ^ n) more ∙ w .product) in
     ap (λ (n : ℕ). n % 2 ^ k) back ∙ mod-eq-of-lt (gcd-below a b (2 ^ k) ha hb)
+
+-- ---- in numbers of 64 bits
+
+-- without its factors of two
+abbrev pub oddOf : ℕ → ℕ
+oddOf n = n / 2 ^ trailingZeros 64 n
+
+-- positive numbers of 32 bits
+pub record Narrow (x y : ℕ) : Type 0 where
+  pub positive-x : 0 < x
+  pub positive-y : 0 < y
+  pub narrow-x : x < 4294967296
+  pub narrow-y : y < 4294967296
+
+-- ---- a step where several pairs go on together: a pair that is done, (g, 0), stays as it is
+
+abbrev OddOrZero : ℕ → Type 0
+OddOrZero n = Odd n ⊎ (n ≡ 0)
+
+-- numbers below n, of which one is odd, and the other odd or 0
+pub record Paired (n x y : ℕ) : Type 0 where
+  pub first : OddOrZero x
+  pub second : OddOrZero y
+  pub some : 0 < x + y
+  pub below-first : x < n
+  pub below-second : y < n
+
+pub record Stepped (n x y x′ y′ : ℕ) : Type 0 where
+  pub pair : Paired n x′ y′
+  pub same : gcd x′ y′ ≡ gcd x y
+  pub falls : x′ + 2 * y′ + y ≤ x + 2 * y
+
+no-twos : (q t b : ℕ) → q * 2 ^ t ≡ b → Odd b → q ≡ b
+no-twos q zero b e o = sym (mul-one q) ∙ e
+no-twos q (suc t) b e o = absurd (omega (arith, mul-assoc q (2 ^ t) 2, pow-suc 2 t, ap (λ (n : ℕ). q * n) (pow-suc 2 t)))
+
+-- m is the lesser, b the greater
+module _ (k m b t : ℕ) (some : 0 < m + b) (l : m ≤ b) (w : m < b → Twos k (b - m) t) where
+  abbrev left : ℕ
+  left = (b - m) / 2 ^ t
+
+  lesser : OddOrZero m → OddOrZero b → (OddOrZero left × (0 < left + m)) × (gcd left m ≡ gcd m b)
+  lesser (inl o) (inl p) = go (ltb m b) refl
+    where
+      go : (c : Bool) → ltb m b ≡ c → (OddOrZero left × (0 < left + m)) × (gcd left m ≡ gcd m b)
+      go true e =
+          let v = w (ltb-true m b e) in
+          ((inl (v .rest-odd), omega arith), gcd-comm left m ∙ sym (gcd-odd m left t o) ∙ ap (gcd m) (v .product) ∙ gcd-less m b l)
+      go false e =
+          let h : b ≡ m = omega (arith, ltb-false m b e) in
+          let none : left ≡ 0 = ap (λ (n : ℕ). n / 2 ^ t) (omega arith) ∙ zero-div (2 ^ t) in
+          ((inr none, omega arith), ap (λ (n : ℕ). gcd n m) none ∙ gcd-zero-left m ∙ sym (gcd-same m) ∙ ap (gcd m) (sym h))
+  lesser (inr z) (inl p) =
+      let v = w (omega arith) in
+      let same : b - m ≡ b = omega arith in
+      let q : left ≡ b = no-twos left t b (v .product ∙ same) p in
+      ((inl (v .rest-odd), omega arith), ap₂ gcd q z ∙ gcd-comm b 0 ∙ ap (λ (n : ℕ). gcd n b) (sym z))
+  lesser (inl o) (inr z) = absurd (omega arith)
+  lesser (inr y) (inr z) = absurd (omega arith)
+
+module _ (k n x y t : ℕ) (h : Paired n x y) where
+  pub stepped-less : x < y → Twos k (y - x) t → Stepped n x y ((y - x) / 2 ^ t) x
+  stepped-less l w =
+      let v = lesser k x y t (h .some) (omega arith) (λ i. w) (h .first) (h .second) in
+      let s = shr-le (y - x) t in
+      record {
+        pair = record { first = v .0 .0; second = h .first; some = v .0 .1; below-first = omega (arith, h .below-second); below-second = h .below-first };
+        same = v .1;
+        falls = omega arith;
+      }
+
+  pub stepped-greater : y ≤ x → (y < x → Twos k (x - y) t) → Stepped n x y ((x - y) / 2 ^ t) y
+  stepped-greater l w =
+      let v = lesser k y x t (omega (arith, h .some)) l w (h .second) (h .first) in
+      let s = shr-le (x - y) t in
+      record {
+        pair = record { first = v .0 .0; second = h .second; some = v .0 .1; below-first = omega (arith, h .below-first); below-second = h .below-second };
+        same = v .1 ∙ gcd-comm y x;
+        falls = omega arith;
+      }
+
+-- the steps lead from x and y, without their factors of two, to p and q
+pub record Going (x y p q : ℕ) : Type 0 where
+  pub pair : Paired 4294967296 p q
+  pub same : gcd p q ≡ gcd (oddOf x) (oddOf y)
+
+module _ (x y : ℕ) where
+  pub going-start : (p q : ℕ) → Narrow x y → p ≡ oddOf x → q ≡ oddOf y → Going x y p q
+  going-start p q h e f =
+      let v = twos 64 x (h .positive-x) (omega (arith, h .narrow-x)) in
+      let w = twos 64 y (h .positive-y) (omega (arith, h .narrow-y)) in
+      rw (e, f)
+      (record {
+        pair = record {
+          first = inl (v .rest-odd);
+          second = inl (w .rest-odd);
+          some = omega (arith, v .rest-odd);
+          below-first = omega (arith, h .narrow-x, shr-le x (trailingZeros 64 x));
+          below-second = omega (arith, h .narrow-y, shr-le y (trailingZeros 64 y));
+        };
+        same = refl;
+      })
+
+  pub going-on : (p q p′ q′ : ℕ) → Going x y p q → Stepped 4294967296 p q p′ q′ → Going x y p′ q′
+  going-on p q p′ q′ g s = record { pair = s .pair; same = s .same ∙ g .same }
+
+  pub going-done : (p q : ℕ) → Going x y p q → q ≡ 0 → p ≡ gcd (oddOf x) (oddOf y)
+  going-done p q g e = sym (gcd-zero p) ∙ ap (gcd p) (sym e) ∙ g .same
