@@ -3,8 +3,9 @@
 -- Assumes nothing.
 use mathlib.Core.Path.{_≡_, refl, sym, _∙_, ap, ap₂, subst}
 use mathlib.Core.Bool.{Bool, true, false, not, Bool·beq}
+use mathlib.Core.Logic.{_⊎_, inl, inr}
 use Prim.Native.Nat.{ℕ, zero, suc, _+_, _*_, _/_, _%_, _≤_, _<_, _∣_}
-use native.Mathlib.Nat.{zero-div, mul-pos, mul-assoc, mul-comm, mul-one, mul-left-comm, mul-div-cancel', div-mul-cancel, mul-div-assoc, dvd-refl, dvd-trans, dvd-mul-right, pos-of-dvd-of-pos, mul-le-mul}
+use native.Mathlib.Nat.{zero-div, zero-mul, mul-zero, zero-lt-suc, mul-pos, mul-assoc, mul-comm, mul-one, one-mul, mul-left-comm, mul-div-cancel', div-mul-cancel, mul-div-assoc, dvd-refl, dvd-trans, dvd-mul-right, pos-of-dvd-of-pos, mul-le-mul}
 use native.Mathlib.Omega.{arith}
 use lib.IntN.{ℤ, pos, negsuc, negℤ, natAbs, _+ℤ_, _*ℤ_}
 use lib.Signed.{quotZ}
@@ -47,6 +48,18 @@ divisor-positive a b g h e = subst (λ (k : ℕ). 0 < k) (sym e) (gcd-positive a
 pub divisor-positive-left : (a b g : ℕ) → 0 < a → g ≡ gcd a b → 0 < g
 divisor-positive-left a b g h e = subst (λ (k : ℕ). 0 < k) (sym e) (pos-of-dvd-of-pos (gcd-left a b) h)
 
+-- ---- the factors of a product that is 0, and of one that is not
+
+pub factor-zero : (p q : ℕ) → p * q ≡ 0 → (p ≡ 0) ⊎ (q ≡ 0)
+factor-zero zero q e = inl refl
+factor-zero (suc p) zero e = inr refl
+factor-zero (suc p) (suc q) e = absurd (omega (arith, mul-pos (zero-lt-suc p) (zero-lt-suc q)))
+
+pub factors-positive : (p q : ℕ) → 0 < p * q → (0 < p) × (0 < q)
+factors-positive zero q h = absurd (omega (arith, zero-mul q))
+factors-positive (suc p) zero h = absurd (omega (arith, mul-zero (suc p)))
+factors-positive (suc p) (suc q) h = (omega arith, omega arith)
+
 -- ---- whole numbers
 
 -- x is whole already
@@ -55,48 +68,63 @@ unfolding _≈_
 whole-lowest z x t b =
     sym (lowest-is x (over z 1) (omega (arith, b)) (omega arith) (coprime-one (natAbs z)) (ap₂ (λ (w : ℤ) (k : ℕ). w *ℤ pos k) (sym t) b))
 
--- ---- products
+-- ---- products, by their sign and magnitudes
 
-module _ (n m : ℤ) (d e : ℕ) (s : Bool) (p q : ℕ) (sign : s ≡ not (Bool·beq (isNegative n) (isNegative m))) (ep : p ≡ natAbs n) (eq : q ≡ natAbs m) where
-  signed-product : n *ℤ m ≡ withSign s (p * q)
-  signed-product = sym (product-sign n m) ∙ (rw (sign, ep, eq))
+module _ (s : Bool) (p d q e : ℕ) where
+  abbrev exactly : Quotient
+  exactly = over (withSign s (p * q)) (d * e)
 
-  pub whole-product : d ≡ 1 → e ≡ 1 → over (withSign s (p * q)) 1 ≡ lowest (over n d *Q over m e)
-  whole-product x y = whole-lowest (withSign s (p * q)) (over n d *Q over m e) signed-product (rw (x, y))
+  pub by-magnitudes : (n m : ℤ) → s ≡ not (Bool·beq (isNegative n) (isNegative m)) → p ≡ natAbs n → q ≡ natAbs m → exactly ≡ over n d *Q over m e
+  by-magnitudes n m sign ep eq = ap (λ (z : ℤ). over z (d * e)) ((rw (sign, ep, eq)) ∙ product-sign n m)
 
-  pub product-lowest : (g h : ℕ) → Parts n d → Parts m e → g ≡ gcd p e → h ≡ gcd q d → over (withSign s (p / g * (q / h))) (d / h * (e / g)) ≡ lowest (over n d *Q over m e)
-  unfolding _≈_
-  product-lowest g h v w eg eh =
-      let gp : g ∣ p = subst (λ (k : ℕ). k ∣ p) (sym eg) (gcd-left p e) in
-      let ge : g ∣ e = subst (λ (k : ℕ). k ∣ e) (sym eg) (gcd-right p e) in
-      let hq : h ∣ q = subst (λ (k : ℕ). k ∣ q) (sym eh) (gcd-left q d) in
-      let hd : h ∣ d = subst (λ (k : ℕ). k ∣ d) (sym eh) (gcd-right q d) in
-      let top = p / g * (q / h) in
-      let bottom = d / h * (e / g) in
-      let coprime : Coprime top bottom =
-      rw (eg, eh) (product-coprime p d q e (rw ep (v .lowest-terms)) (rw eq (w .lowest-terms)) (v .positive) (w .positive)) in
-      let equal : top * (d * e) ≡ (p * q) * bottom =
-      regroup (p / g) (q / h) d e
-      ∙ ap₂ (λ (a b : ℕ). a * b) (exchange p e g gp ge) (exchange q d h hq hd)
-      ∙ regroup′ p q (d / h) (e / g) in
-      sym
-      (lowest-is (over n d *Q over m e) (over (withSign s top) bottom) (mul-pos (v .positive) (w .positive))
-      (mul-pos (quotient-positive d h hd (v .positive)) (quotient-positive e g ge (w .positive)))
-      (rw (natAbs-withSign s top) coprime)
-      (sign-mul s top (d * e) ∙ ap (withSign s) equal ∙ sym (sign-mul s (p * q) bottom) ∙ ap (λ (z : ℤ). z *ℤ pos bottom) (sym signed-product)))
-    where
-      regroup : (a b d e : ℕ) → a * b * (d * e) ≡ a * e * (b * d)
-      regroup a b d e = simp (mul-assoc, mul-comm, mul-left-comm)
+  pub whole-product : d ≡ 1 → e ≡ 1 → over (withSign s (p * q)) 1 ≡ lowest exactly
+  whole-product x y = whole-lowest (withSign s (p * q)) exactly refl (rw (x, y))
 
-      regroup′ : (a b c d : ℕ) → a * d * (b * c) ≡ a * b * (c * d)
-      regroup′ a b c d = simp (mul-assoc, mul-comm, mul-left-comm)
+  module _ (hd : 0 < d) (he : 0 < e) where
+    pub zero-product : p * q ≡ 0 → over (withSign s 0) 1 ≡ lowest exactly
+    unfolding _≈_
+    zero-product z =
+        sym
+        (lowest-is exactly (over (withSign s 0) 1) (mul-pos hd he) (omega arith) (coprime-one (natAbs (withSign s 0)))
+        (sign-mul s 0 (d * e) ∙ ap (withSign s) (zero-mul (d * e) ∙ sym z ∙ sym (mul-one (p * q))) ∙ sym (sign-mul s (p * q) 1)))
+
+    pub product-lowest : (g h : ℕ) → Coprime p d → Coprime q e → g ≡ gcd p e → h ≡ gcd q d → over (withSign s (p / g * (q / h))) (d / h * (e / g)) ≡ lowest exactly
+    unfolding _≈_
+    product-lowest g h v w eg eh =
+        let gp : g ∣ p = subst (λ (k : ℕ). k ∣ p) (sym eg) (gcd-left p e) in
+        let ge : g ∣ e = subst (λ (k : ℕ). k ∣ e) (sym eg) (gcd-right p e) in
+        let hq : h ∣ q = subst (λ (k : ℕ). k ∣ q) (sym eh) (gcd-left q d) in
+        let hh : h ∣ d = subst (λ (k : ℕ). k ∣ d) (sym eh) (gcd-right q d) in
+        let top = p / g * (q / h) in
+        let bottom = d / h * (e / g) in
+        let coprime : Coprime top bottom = rw (eg, eh) (product-coprime p d q e v w hd he) in
+        let equal : top * (d * e) ≡ (p * q) * bottom =
+        regroup (p / g) (q / h) d e
+        ∙ ap₂ (λ (a b : ℕ). a * b) (exchange p e g gp ge) (exchange q d h hq hh)
+        ∙ regroup′ p q (d / h) (e / g) in
+        sym
+        (lowest-is exactly (over (withSign s top) bottom) (mul-pos hd he)
+        (mul-pos (quotient-positive d h hh hd) (quotient-positive e g ge he))
+        (rw (natAbs-withSign s top) coprime)
+        (sign-mul s top (d * e) ∙ ap (withSign s) equal ∙ sym (sign-mul s (p * q) bottom)))
+      where
+        regroup : (a b d e : ℕ) → a * b * (d * e) ≡ a * e * (b * d)
+        regroup a b d e = simp (mul-assoc, mul-comm, mul-left-comm)
+
+        regroup′ : (a b c d : ℕ) → a * d * (b * c) ≡ a * b * (c * d)
+        regroup′ a b c d = simp (mul-assoc, mul-comm, mul-left-comm)
 
 -- ---- sums
 
-module _ (n m : ℤ) (d e : ℕ) where
-  pub whole-sum : d ≡ 1 → e ≡ 1 → over (n +ℤ m) 1 ≡ lowest (over n d +Q over m e)
-  whole-sum x y = whole-lowest (n +ℤ m) (over n d +Q over m e) (rw (x, y, *ℤ-pos-one n, *ℤ-pos-one m)) (rw (x, y))
+-- a whole number more: the sum has m's denominator
+pub whole-sum : (n m : ℤ) (e : ℕ) → Parts m e → over (n *ℤ pos e +ℤ m *ℤ pos 1) e ≡ lowest (over n 1 +Q over m e)
+unfolding _≈_
+whole-sum n m e w =
+    let t = n *ℤ pos e +ℤ m *ℤ pos 1 in
+    let coprime : Coprime (natAbs t) (1 * e) = sum-coprime n m 1 e (coprime-one (natAbs n)) (w .lowest-terms) (coprime-sym e 1 (coprime-one e)) in
+    sym (lowest-is (over t (1 * e)) (over t e) (omega (arith, one-mul e, w .positive)) (w .positive) (subst (Coprime (natAbs t)) (one-mul e) coprime) (rw (one-mul e)))
 
+module _ (n m : ℤ) (d e : ℕ) where
   module _ (v : Parts n d) (w : Parts m e) where
     abbrev g : ℕ
     g = gcd d e

@@ -3,15 +3,16 @@
 ghost use mathlib.Core.Path.{_≡_};
 ghost use mathlib.Core.Bool.{_&&_};
 ghost use Prim.Native.Nat.{ℕ, _*_, _≤_, _<_};
+ghost use lib.Dec.{eqb};
 ghost use lib.IntN.{ℤ, pos, natAbs, _*ℤ_, _+ℤ_};
 ghost use lib.Signed.{_<ℤ_};
 ghost use Rattle.integers.specs.Gcd.{gcd as gcdOf};
 ghost use Rattle.integers.specs.Binary.{Odd, oddOf, Narrow, Paired, Stepped, Going};
 ghost use Rattle.integers.specs.Signs.{withSign};
 ghost use Rattle.fraction.specs.Quotient.{_+Q_, _*Q_, lowest, floorZ, ceilingZ};
-ghost use Rattle.fraction.specs.Fraction.{limit, isFraction, within as withinOf, reducedOf, productOf, sumOf, compareOf, order, floorOf, ceilingOf, arithmeticSays, comparisonSays, roundingSays};
+ghost use Rattle.fraction.specs.Fraction.{limit, isFraction, onFractions, within as withinOf, reducedOf, productOf, sumOf, compareOf, order, floorOf, ceilingOf, arithmeticSays, comparisonSays, roundingSays};
 ghost use Rattle.fraction.specs.Outcome.{gives};
-ghost use Rattle.fraction.specs.Parts.{Parts, over};
+ghost use Rattle.fraction.specs.Parts.{Parts, Shaped, isShaped, lowestTerms, over};
 
 // The largest magnitude of a numerator or a denominator.
 const LIMIT: u64 = 2147483647;
@@ -216,24 +217,35 @@ fn wide_signed(n: i32, d: u32) -> i64
     (n as i64) * (d as i64)
 }
 
-// Whether a pair is a fraction in lowest terms within the limit. A whole number needs no greatest common divisor.
-fn is_fraction(f: Fraction) -> bool
-    ensures { λ r. ⌜ r ≡ isFraction f ⌝ }
+// Whether p / d has no common divisors. A whole number needs no greatest common divisor.
+fn lowest_terms(p: u32, d: u32) -> bool
+    ensures { λ r. ⌜ r ≡ eqb (gcdOf p d) 1 ⌝ }
+{
+    if d == 1 { true } else { gcd(p, d) == 1 }
+}
+
+// Whether a pair is a fraction if it is in lowest terms.
+fn is_shaped(f: Fraction) -> bool
+    ensures { λ r. ⌜ r ≡ isShaped f ⌝ }
 {
     let n = f.num;
     let d = f.den;
     if d <= 0 {
-        return false;
+        false
+    } else {
+        (magnitude(n) as u64) <= LIMIT
     }
-    let p = magnitude(n);
-    if (p as u64) > LIMIT {
-        return false;
+}
+
+// Whether a pair is a fraction in lowest terms within the limit.
+fn is_fraction(f: Fraction) -> bool
+    ensures { λ r. ⌜ r ≡ isFraction f ⌝ }
+{
+    if is_shaped(f) {
+        lowest_terms(magnitude(f.num), magnitude(f.den))
+    } else {
+        false
     }
-    let q = magnitude(d);
-    if q == 1 {
-        return true;
-    }
-    gcd(p, q) == 1
 }
 
 fn both(a: Fraction, b: Fraction) -> bool
@@ -273,23 +285,61 @@ pub fn reduced(negative: bool, n: u64, d: u64) -> Arithmetic
     within(negative, n / g, d / g)
 }
 
-// n / d times m / e. The common divisors of n and e, and of m and d, are divided out before the products are formed: what
-// is left is in lowest terms, and no loop runs on more than 32 bits.
-fn times(n: i32, d: u32, m: i32, e: u32) -> Arithmetic
-    requires { ⌜ Parts n d × Parts m e ⌝ }
-    ensures { λ r. ⌜ arithmeticSays r ≡ withinOf (lowest (over n d *Q over m e)) ⌝ }
+// p / d times q / e, negated if asked, none of them 0. The common divisors of p and e, and of q and d, are divided out before
+// the products are formed: what is left is in lowest terms. That both are in lowest terms is found by the same loop.
+fn crossed(neg: bool, p: u32, d: u32, q: u32, e: u32) -> Arithmetic
+    requires { ⌜ ((0 < p) × (0 < d)) × ((0 < q) × (0 < e)) ⌝ }
+    ensures { λ r. ⌜ arithmeticSays r ≡ onFractions (eqb (gcdOf p d) 1 && eqb (gcdOf q e) 1) (withinOf (lowest (over (withSign neg (p * q)) (d * e)))) ⌝ }
 {
-    let neg = (n < 0) != (m < 0);
-    let p = magnitude(n);
-    let q = magnitude(m);
+    let v = gcds(paired(p, d), paired(q, e), paired(p, e), paired(q, d));
+    if v.a != 1 {
+        return Arithmetic::NotAFraction;
+    }
+    if v.b != 1 {
+        return Arithmetic::NotAFraction;
+    }
+    let g = v.c;
+    let h = v.d;
+    within(neg, wide(p / g, q / h), wide(d / h, e / g))
+}
+
+fn both_lowest(p: u32, d: u32, q: u32, e: u32) -> bool
+    ensures { λ r. ⌜ r ≡ eqb (gcdOf p d) 1 && eqb (gcdOf q e) 1 ⌝ }
+{
+    if lowest_terms(p, d) {
+        lowest_terms(q, e)
+    } else {
+        false
+    }
+}
+
+// The same, where p and q may be 0. A product of whole numbers is whole, and so is 0.
+fn crossed_any(neg: bool, p: u32, d: u32, q: u32, e: u32) -> Arithmetic
+    requires { ⌜ (0 < d) × (0 < e) ⌝ }
+    ensures { λ r. ⌜ arithmeticSays r ≡ onFractions (eqb (gcdOf p d) 1 && eqb (gcdOf q e) 1) (withinOf (lowest (over (withSign neg (p * q)) (d * e)))) ⌝ }
+{
+    let w = wide(p, q);
     if d == 1 {
         if e == 1 {
-            return within(neg, wide(p, q), 1);
+            return within(neg, w, 1);
         }
     }
-    let g = gcd(p, e);
-    let h = gcd(q, d);
-    within(neg, wide(p / g, q / h), wide(d / h, e / g))
+    if w != 0 {
+        return crossed(neg, p, d, q, e);
+    }
+    if both_lowest(p, d, q, e) {
+        within(neg, 0, 1)
+    } else {
+        Arithmetic::NotAFraction
+    }
+}
+
+// n / d times m / e.
+fn times(n: i32, d: u32, m: i32, e: u32) -> Arithmetic
+    requires { ⌜ Shaped n d × Shaped m e ⌝ }
+    ensures { λ r. ⌜ arithmeticSays r ≡ onFractions (lowestTerms n d && lowestTerms m e) (withinOf (lowest (over n d *Q over m e))) ⌝ }
+{
+    crossed_any((n < 0) != (m < 0), magnitude(n), d, magnitude(m), e)
 }
 
 // n * e + m * d.
@@ -300,37 +350,77 @@ fn cross_sum(n: i32, e: u32, m: i32, d: u32) -> i64
     wide_signed(n, e) + wide_signed(m, d)
 }
 
-// n plus m, whole numbers.
-fn plus_whole(n: i32, m: i32) -> Arithmetic
-    requires { ⌜ (natAbs n ≤ limit) × (natAbs m ≤ limit) ⌝ }
-    ensures { λ r. ⌜ arithmeticSays r ≡ withinOf (over (n +ℤ m) 1) ⌝ }
+// n plus m / e, n a whole number: no common divisors are to be divided out.
+fn plus_whole(n: i32, m: i32, e: u32) -> Arithmetic
+    requires { ⌜ (natAbs n ≤ limit) × Parts m e ⌝ }
+    ensures { λ r. ⌜ arithmeticSays r ≡ withinOf (lowest (over n 1 +Q over m e)) ⌝ }
 {
-    let s = cross_sum(n, 1, m, 1);
-    within(s < 0, magnitude_wide(s), 1)
+    let t = cross_sum(n, e, m, 1);
+    within(t < 0, magnitude_wide(t), e as u64)
 }
 
 // n / d plus m / e. With g the common divisor of d and e, the sum is t / (d / g * e) for t = n * (e / g) + m * (d / g), and
 // only divisors of g are left to divide out.
-fn plus(n: i32, d: u32, m: i32, e: u32) -> Arithmetic
-    requires { ⌜ Parts n d × Parts m e ⌝ }
+fn plus_by(g: u32, n: i32, d: u32, m: i32, e: u32) -> Arithmetic
+    requires { ⌜ (Parts n d × Parts m e) × (g ≡ gcdOf d e) ⌝ }
     ensures { λ r. ⌜ arithmeticSays r ≡ withinOf (lowest (over n d +Q over m e)) ⌝ }
 {
-    if d == 1 {
-        if e == 1 {
-            return plus_whole(n, m);
-        }
-    }
-    let g = gcd(d, e);
     let t = cross_sum(n, e / g, m, d / g);
     let p = magnitude_wide(t);
     let h = gcd(g, (p % (g as u64)) as u32);
     within(t < 0, p / (h as u64), wide(d / g, e / h))
 }
 
+// The same, with the test that both are in lowest terms, and neither a whole number. 0 is whole.
+fn plus_fractions(n: i32, d: u32, m: i32, e: u32) -> Arithmetic
+    requires { ⌜ (Shaped n d × Shaped m e) × ((1 < d) × (1 < e)) ⌝ }
+    ensures { λ r. ⌜ arithmeticSays r ≡ onFractions (lowestTerms n d && lowestTerms m e) (withinOf (lowest (over n d +Q over m e))) ⌝ }
+{
+    let p = magnitude(n);
+    let q = magnitude(m);
+    if wide(p, q) == 0 {
+        return Arithmetic::NotAFraction;
+    }
+    let v = gcds(paired(p, d), paired(q, e), paired(d, e), paired(1, 1));
+    if v.a != 1 {
+        return Arithmetic::NotAFraction;
+    }
+    if v.b != 1 {
+        return Arithmetic::NotAFraction;
+    }
+    plus_by(v.c, n, d, m, e)
+}
+
+// n / d plus m / e.
+fn plus(n: i32, d: u32, m: i32, e: u32) -> Arithmetic
+    requires { ⌜ Shaped n d × Shaped m e ⌝ }
+    ensures { λ r. ⌜ arithmeticSays r ≡ onFractions (lowestTerms n d && lowestTerms m e) (withinOf (lowest (over n d +Q over m e))) ⌝ }
+{
+    if d == 1 {
+        if lowest_terms(magnitude(m), e) {
+            return plus_whole(n, m, e);
+        }
+        return Arithmetic::NotAFraction;
+    }
+    if e == 1 {
+        if lowest_terms(magnitude(n), d) {
+            return plus_whole(m, n, d);
+        }
+        return Arithmetic::NotAFraction;
+    }
+    plus_fractions(n, d, m, e)
+}
+
+fn both_shaped(a: Fraction, b: Fraction) -> bool
+    ensures { λ r. ⌜ r ≡ isShaped a && isShaped b ⌝ }
+{
+    if is_shaped(a) { is_shaped(b) } else { false }
+}
+
 pub fn product(a: Fraction, b: Fraction) -> Arithmetic
     ensures { λ r. ⌜ arithmeticSays r ≡ productOf a b ⌝ }
 {
-    if both(a, b) {
+    if both_shaped(a, b) {
         times(a.num, magnitude(a.den), b.num, magnitude(b.den))
     } else {
         Arithmetic::NotAFraction
@@ -340,7 +430,7 @@ pub fn product(a: Fraction, b: Fraction) -> Arithmetic
 pub fn sum(a: Fraction, b: Fraction) -> Arithmetic
     ensures { λ r. ⌜ arithmeticSays r ≡ sumOf a b ⌝ }
 {
-    if both(a, b) {
+    if both_shaped(a, b) {
         plus(a.num, magnitude(a.den), b.num, magnitude(b.den))
     } else {
         Arithmetic::NotAFraction
