@@ -34,3 +34,12 @@ pub record Parts (n : ℤ) (d : ℕ) : Type 0 where
   pub num-within : natAbs n ≤ limit
   pub den-within : d ≤ limit
   pub lowest-terms : gcd (natAbs n) d ≡ 1
+
+-- a result n / (d * e) of p / d and q / e, in magnitudes: where it is not 0, neither p nor q is
+pub record Worked (p d q e n : ℕ) : Type 0 where
+  pub positive-d : 0 < d
+  pub positive-e : 0 < e
+  pub within-d : d ≤ limit
+  pub within-e : e ≤ limit
+  pub fits : n < 9223372036854775808
+  pub factors : 0 < n → (0 < p) × (0 < q)

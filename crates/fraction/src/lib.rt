@@ -12,7 +12,7 @@ ghost use Rattle.integers.specs.Signs.{withSign};
 ghost use Rattle.fraction.specs.Quotient.{_+Q_, _*Q_, lowest, floorZ, ceilingZ};
 ghost use Rattle.fraction.specs.Fraction.{limit, isFraction, onFractions, within as withinOf, reducedOf, productOf, sumOf, compareOf, order, floorOf, ceilingOf, arithmeticSays, comparisonSays, roundingSays};
 ghost use Rattle.fraction.specs.Outcome.{gives};
-ghost use Rattle.fraction.specs.Parts.{Parts, Shaped, isShaped, lowestTerms, over};
+ghost use Rattle.fraction.specs.Parts.{Parts, Shaped, Worked, isShaped, lowestTerms, over};
 
 // The largest magnitude of a numerator or a denominator.
 const LIMIT: u64 = 2147483647;
@@ -103,7 +103,7 @@ fn with_twos(p: Pair, g: u64) -> u64
     if i < j { g << i } else { g << j }
 }
 
-fn gcd_wide(a: u64, b: u64) -> u64
+fn gcd(a: u64, b: u64) -> u64
     ensures { λ r. ⌜ r ≡ gcdOf a b ⌝ }
 {
     if a == 0 {
@@ -117,20 +117,14 @@ fn gcd_wide(a: u64, b: u64) -> u64
     with_twos(p, gcd_odd(o.x, o.y))
 }
 
-fn gcd(a: u32, b: u32) -> u32
-    ensures { λ r. ⌜ r ≡ gcdOf a b ⌝ }
-{
-    gcd_wide(a as u64, b as u64) as u32
-}
-
-// One step of `gcds`. The sum with 2^32 has as many zeros at its end as the difference of x and y, where there is one.
+// One step of `gcds`. The sum with 2^63 has as many zeros at its end as the difference of x and y, where there is one.
 fn step(p: Pair) -> Pair
-    requires { ⌜ Paired 4294967296 (p .x) (p .y) ⌝ }
-    ensures { λ r. ⌜ Stepped 4294967296 (p .x) (p .y) (r .x) (r .y) ⌝ }
+    requires { ⌜ Paired 9223372036854775808 (p .x) (p .y) ⌝ }
+    ensures { λ r. ⌜ Stepped 9223372036854775808 (p .x) (p .y) (r .x) (r .y) ⌝ }
 {
     let x = p.x;
     let y = p.y;
-    let t = u64::trailing_zeros(x + 4294967296 - y);
+    let t = u64::trailing_zeros(x + 9223372036854775808 - y);
     if x < y {
         Pair {
             x: (y - x) >> t,
@@ -144,41 +138,41 @@ fn step(p: Pair) -> Pair
     }
 }
 
-// The greatest common divisor of a, where p has come to the end of the steps.
-fn reached(a: Pair, p: Pair) -> u32
-    requires { ⌜ Narrow (a .x) (a .y) × Going (a .x) (a .y) (p .x) (p .y) × (p .y ≡ 0) ⌝ }
+// The greatest common divisor of a, where the steps have led to p.
+fn reached(a: Pair, p: Pair) -> u64
+    requires { ⌜ Narrow (a .x) (a .y) × Going (a .x) (a .y) (p .x) (p .y) × (p .y ≤ 1) ⌝ }
     ensures { λ r. ⌜ r ≡ gcdOf (a .x) (a .y) ⌝ }
 {
-    with_twos(a, p.x) as u32
+    if p.y == 1 {
+        with_twos(a, 1)
+    } else {
+        with_twos(a, p.x)
+    }
 }
 
 struct Divisors {
-    a: u32,
-    b: u32,
-    c: u32,
-    d: u32,
+    a: u64,
+    b: u64,
+    c: u64,
 }
 
-// Four greatest common divisors in one loop. Their steps do not wait for each other, and the loop ends only once.
-fn gcds(a: Pair, b: Pair, c: Pair, d: Pair) -> Divisors
-    requires { ⌜ (Narrow (a .x) (a .y) × Narrow (b .x) (b .y)) × (Narrow (c .x) (c .y) × Narrow (d .x) (d .y)) ⌝ }
-    ensures { λ r. ⌜ ((r .a ≡ gcdOf (a .x) (a .y)) × (r .b ≡ gcdOf (b .x) (b .y))) × ((r .c ≡ gcdOf (c .x) (c .y)) × (r .d ≡ gcdOf (d .x) (d .y))) ⌝ }
+// Three greatest common divisors in one loop. Their steps do not wait for each other, and the loop ends only once.
+fn gcds(a: Pair, b: Pair, c: Pair) -> Divisors
+    requires { ⌜ Narrow (a .x) (a .y) × Narrow (b .x) (b .y) × Narrow (c .x) (c .y) ⌝ }
+    ensures { λ r. ⌜ (r .a ≡ gcdOf (a .x) (a .y)) × (r .b ≡ gcdOf (b .x) (b .y)) × (r .c ≡ gcdOf (c .x) (c .y)) ⌝ }
 {
     let mut p = odd(a);
     let mut q = odd(b);
     let mut r = odd(c);
-    let mut s = odd(d);
-    while p.y + q.y + r.y + s.y != 0 {
+    while (p.y | q.y | r.y) > 1 {
         p = step(p);
         q = step(q);
         r = step(r);
-        s = step(s);
     }
     Divisors {
         a: reached(a, p),
         b: reached(b, q),
         c: reached(c, r),
-        d: reached(d, s),
     }
 }
 
@@ -221,7 +215,11 @@ fn wide_signed(n: i32, d: u32) -> i64
 fn lowest_terms(p: u32, d: u32) -> bool
     ensures { λ r. ⌜ r ≡ eqb (gcdOf p d) 1 ⌝ }
 {
-    if d == 1 { true } else { gcd(p, d) == 1 }
+    if d == 1 {
+        true
+    } else {
+        gcd(p as u64, d as u64) == 1
+    }
 }
 
 // Whether a pair is a fraction if it is in lowest terms.
@@ -281,26 +279,8 @@ pub fn reduced(negative: bool, n: u64, d: u64) -> Arithmetic
     if d == 0 {
         return Arithmetic::NotAFraction;
     }
-    let g = gcd_wide(n, d);
+    let g = gcd(n, d);
     within(negative, n / g, d / g)
-}
-
-// p / d times q / e, negated if asked, none of them 0. The common divisors of p and e, and of q and d, are divided out before
-// the products are formed: what is left is in lowest terms. That both are in lowest terms is found by the same loop.
-fn crossed(neg: bool, p: u32, d: u32, q: u32, e: u32) -> Arithmetic
-    requires { ⌜ ((0 < p) × (0 < d)) × ((0 < q) × (0 < e)) ⌝ }
-    ensures { λ r. ⌜ arithmeticSays r ≡ onFractions (eqb (gcdOf p d) 1 && eqb (gcdOf q e) 1) (withinOf (lowest (over (withSign neg (p * q)) (d * e)))) ⌝ }
-{
-    let v = gcds(paired(p, d), paired(q, e), paired(p, e), paired(q, d));
-    if v.a != 1 {
-        return Arithmetic::NotAFraction;
-    }
-    if v.b != 1 {
-        return Arithmetic::NotAFraction;
-    }
-    let g = v.c;
-    let h = v.d;
-    within(neg, wide(p / g, q / h), wide(d / h, e / g))
 }
 
 fn both_lowest(p: u32, d: u32, q: u32, e: u32) -> bool
@@ -313,19 +293,33 @@ fn both_lowest(p: u32, d: u32, q: u32, e: u32) -> bool
     }
 }
 
-// The same, where p and q may be 0. A product of whole numbers is whole, and so is 0.
-fn crossed_any(neg: bool, p: u32, d: u32, q: u32, e: u32) -> Arithmetic
-    requires { ⌜ (0 < d) × (0 < e) ⌝ }
-    ensures { λ r. ⌜ arithmeticSays r ≡ onFractions (eqb (gcdOf p d) 1 && eqb (gcdOf q e) 1) (withinOf (lowest (over (withSign neg (p * q)) (d * e)))) ⌝ }
+// The quotient c, negated if asked, brought to lowest terms, if the quotients a and b are in lowest terms.
+fn lowest_after(a: Pair, b: Pair, neg: bool, c: Pair) -> Arithmetic
+    requires { ⌜ Narrow (a .x) (a .y) × Narrow (b .x) (b .y) × Narrow (c .x) (c .y) ⌝ }
+    ensures { λ r. ⌜ arithmeticSays r ≡ onFractions (eqb (gcdOf (a .x) (a .y)) 1 && eqb (gcdOf (b .x) (b .y)) 1) (withinOf (lowest (over (withSign neg (c .x)) (c .y)))) ⌝ }
 {
-    let w = wide(p, q);
-    if d == 1 {
-        if e == 1 {
-            return within(neg, w, 1);
-        }
+    let v = gcds(a, b, c);
+    if v.a != 1 {
+        return Arithmetic::NotAFraction;
     }
-    if w != 0 {
-        return crossed(neg, p, d, q, e);
+    if v.b != 1 {
+        return Arithmetic::NotAFraction;
+    }
+    let g = v.c;
+    within(neg, c.x / g, c.y / g)
+}
+
+// n / (d * e), negated if asked, brought to lowest terms, if p / d and q / e are in lowest terms.
+fn worked_out(p: u32, d: u32, q: u32, e: u32, neg: bool, n: u64) -> Arithmetic
+    requires { ⌜ Worked p d q e n ⌝ }
+    ensures { λ r. ⌜ arithmeticSays r ≡ onFractions (eqb (gcdOf p d) 1 && eqb (gcdOf q e) 1) (withinOf (lowest (over (withSign neg n) (d * e)))) ⌝ }
+{
+    if n != 0 {
+        let c = Pair {
+            x: n,
+            y: wide(d, e),
+        };
+        return lowest_after(paired(p, d), paired(q, e), neg, c);
     }
     if both_lowest(p, d, q, e) {
         within(neg, 0, 1)
@@ -339,7 +333,15 @@ fn times(n: i32, d: u32, m: i32, e: u32) -> Arithmetic
     requires { ⌜ Shaped n d × Shaped m e ⌝ }
     ensures { λ r. ⌜ arithmeticSays r ≡ onFractions (lowestTerms n d && lowestTerms m e) (withinOf (lowest (over n d *Q over m e))) ⌝ }
 {
-    crossed_any((n < 0) != (m < 0), magnitude(n), d, magnitude(m), e)
+    let neg = (n < 0) != (m < 0);
+    let p = magnitude(n);
+    let q = magnitude(m);
+    if d == 1 {
+        if e == 1 {
+            return within(neg, wide(p, q), 1);
+        }
+    }
+    worked_out(p, d, q, e, neg, wide(p, q))
 }
 
 // n * e + m * d.
@@ -359,19 +361,7 @@ fn plus_whole(n: i32, m: i32, e: u32) -> Arithmetic
     within(t < 0, magnitude_wide(t), e as u64)
 }
 
-// n / d plus m / e. With g the common divisor of d and e, the sum is t / (d / g * e) for t = n * (e / g) + m * (d / g), and
-// only divisors of g are left to divide out.
-fn plus_by(g: u32, n: i32, d: u32, m: i32, e: u32) -> Arithmetic
-    requires { ⌜ (Parts n d × Parts m e) × (g ≡ gcdOf d e) ⌝ }
-    ensures { λ r. ⌜ arithmeticSays r ≡ withinOf (lowest (over n d +Q over m e)) ⌝ }
-{
-    let t = cross_sum(n, e / g, m, d / g);
-    let p = magnitude_wide(t);
-    let h = gcd(g, (p % (g as u64)) as u32);
-    within(t < 0, p / (h as u64), wide(d / g, e / h))
-}
-
-// The same, with the test that both are in lowest terms, and neither a whole number. 0 is whole.
+// n / d plus m / e, neither of them a whole number. 0 is whole.
 fn plus_fractions(n: i32, d: u32, m: i32, e: u32) -> Arithmetic
     requires { ⌜ (Shaped n d × Shaped m e) × ((1 < d) × (1 < e)) ⌝ }
     ensures { λ r. ⌜ arithmeticSays r ≡ onFractions (lowestTerms n d && lowestTerms m e) (withinOf (lowest (over n d +Q over m e))) ⌝ }
@@ -381,14 +371,8 @@ fn plus_fractions(n: i32, d: u32, m: i32, e: u32) -> Arithmetic
     if wide(p, q) == 0 {
         return Arithmetic::NotAFraction;
     }
-    let v = gcds(paired(p, d), paired(q, e), paired(d, e), paired(1, 1));
-    if v.a != 1 {
-        return Arithmetic::NotAFraction;
-    }
-    if v.b != 1 {
-        return Arithmetic::NotAFraction;
-    }
-    plus_by(v.c, n, d, m, e)
+    let t = cross_sum(n, e, m, d);
+    worked_out(p, d, q, e, t < 0, magnitude_wide(t))
 }
 
 // n / d plus m / e.

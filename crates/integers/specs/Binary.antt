@@ -11,6 +11,7 @@ use native.Mathlib.Omega.{arith}
 use borrow.Author.Tests.{ltb-true, ltb-false}
 use lib.Dec.{ltb}
 use lib.Pow.{pow-pos, pow-add, shl-shr, shr-mono, shr-le}
+use lib.Bits.{bitOr, or-add-and, or-comm, and-le-r}
 use lib.Count.{trailingZeros, under}
 use Rattle.integers.specs.Gcd.{gcd, euclid, gcd-zero, gcd-step, gcd-left, gcd-right, gcd-greatest, gcd-mul}
 use Rattle.integers.specs.Coprime.{Coprime, coprime-one, coprime-sym, coprime-mul, gcd-coprime-factor}
@@ -229,12 +230,12 @@ gcd-shifted k a b i j ha hb v w l =
 abbrev pub oddOf : ℕ → ℕ
 oddOf n = n / 2 ^ trailingZeros 64 n
 
--- positive numbers of 32 bits
+-- positive numbers of 63 bits
 pub record Narrow (x y : ℕ) : Type 0 where
   pub positive-x : 0 < x
   pub positive-y : 0 < y
-  pub narrow-x : x < 4294967296
-  pub narrow-y : y < 4294967296
+  pub narrow-x : x < 9223372036854775808
+  pub narrow-y : y < 9223372036854775808
 
 -- ---- a step where several pairs go on together: a pair that is done, (g, 0), stays as it is
 
@@ -305,7 +306,7 @@ module _ (k n x y t : ℕ) (h : Paired n x y) where
 
 -- the steps lead from x and y, without their factors of two, to p and q
 pub record Going (x y p q : ℕ) : Type 0 where
-  pub pair : Paired 4294967296 p q
+  pub pair : Paired 9223372036854775808 p q
   pub same : gcd p q ≡ gcd (oddOf x) (oddOf y)
 
 module _ (x y : ℕ) where
@@ -325,8 +326,27 @@ module _ (x y : ℕ) where
         same = refl;
       })
 
-  pub going-on : (p q p′ q′ : ℕ) → Going x y p q → Stepped 4294967296 p q p′ q′ → Going x y p′ q′
+  pub going-on : (p q p′ q′ : ℕ) → Going x y p q → Stepped 9223372036854775808 p q p′ q′ → Going x y p′ q′
   going-on p q p′ q′ g s = record { pair = s .pair; same = s .same ∙ g .same }
 
-  pub going-done : (p q : ℕ) → Going x y p q → q ≡ 0 → p ≡ gcd (oddOf x) (oddOf y)
-  going-done p q g e = sym (gcd-zero p) ∙ ap (gcd p) (sym e) ∙ g .same
+  pub going-zero : (p q : ℕ) → Going x y p q → q ≡ 0 → p ≡ gcd (oddOf x) (oddOf y)
+  going-zero p q g e = sym (gcd-zero p) ∙ ap (gcd p) (sym e) ∙ g .same
+
+  pub going-one : (p q : ℕ) → Going x y p q → q ≡ 1 → 1 ≡ gcd (oddOf x) (oddOf y)
+  going-one p q g e = sym (coprime-one p) ∙ ap (gcd p) (sym e) ∙ g .same
+
+-- ---- the loop's test
+
+or-below : (x y : ℕ) → (x ≤ bitOr x y) × (bitOr x y ≤ x + y)
+or-below x y = (omega (arith, or-add-and x y, and-le-r x y), omega (arith, or-add-and x y))
+
+module _ (a b c : ℕ) where
+  pub or-some : 1 < bitOr (bitOr a b) c → 1 < a + b + c
+  or-some h = omega (arith, or-below (bitOr a b) c .1, or-below a b .1)
+
+  pub or-all : bitOr (bitOr a b) c ≤ 1 → (a ≤ 1) × (b ≤ 1) × (c ≤ 1)
+  or-all h = (
+    omega (arith, or-below (bitOr a b) c .0, or-below a b .0),
+    omega (arith, or-below (bitOr a b) c .0, or-below b a .0, or-comm a b),
+    omega (arith, or-below c (bitOr a b) .0, or-comm c (bitOr a b)),
+  )

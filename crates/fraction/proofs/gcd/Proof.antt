@@ -1,19 +1,37 @@
--- `fraction::gcd` meets its contract: a common divisor of numbers of 32 bits has no more.
-use borrow.Author.Needs.{needs}
+-- `fraction::gcd` meets its contract: what is odd of a and b goes to `gcd_odd`, and the lesser power of two comes back.
+use mathlib.Core.Path.{_≡_, sym, _∙_, ap, ap₂, subst}
+use Prim.Native.Nat.{ℕ}
 use native.Mathlib.Omega.{arith}
 use Rattle.fraction.proofs.gcd.Statement.{statement}
 use Rattle.fraction.proofs.gcd.Tie as tie
-use Rattle.fraction.proofs.gcd_wide.Reads as gcd-wide-reads
-use Rattle.integers.specs.Binary.{gcd-below}
-
-gcd-wide-requires : tie.Need-gcd-wide-requires
-gcd-wide-requires c κs = search needs
-
-cast-result : tie.Need-cast-result
-cast-result c = record { fits = omega (arith, c .gcd-wide .ensures, gcd-below (c .before .args .a) (c .before .args .b) 4294967296 (omega arith) (omega arith)) }
+use Rattle.fraction.proofs.gcd_odd.Reads as gcd-odd-reads
+use Rattle.fraction.proofs.odd.Reads as odd-reads
+use Rattle.fraction.proofs.with_twos.Reads as with-twos-reads
+use Rattle.integers.specs.Gcd.{gcd, gcd-zero}
+use Rattle.integers.specs.Binary.{Odd, twos, gcd-zero-left}
 
 returns : tie.Need-returns
-returns c = search needs
+returns c = sym (ap (λ (n : ℕ). gcd n (c .before .args .b)) (c .if1 .taken) ∙ gcd-zero-left _)
+
+returns-2 : tie.Need-returns-2
+returns-2 c = sym (ap (gcd (c .before .before .args .a)) (c .if2 .taken) ∙ gcd-zero _)
+
+odd-requires : tie.Need-odd-requires
+odd-requires c κs = (omega arith, omega arith)
+
+gcd-odd-requires : tie.Need-gcd-odd-requires
+gcd-odd-requires c κs =
+    let s = c .before .before .before in
+    let e = c .odd .ensures in
+    (rw (e .0) (twos 64 (s .args .a) (omega arith) (omega arith) .rest-odd), rw (e .1) (twos 64 (s .args .b) (omega arith) (omega arith) .rest-odd))
+
+with-twos-requires : tie.Need-with-twos-requires
+with-twos-requires c κs =
+    let e = c .before .odd .ensures in
+    (omega arith, omega arith, c .gcd-odd .ensures ∙ ap₂ gcd (e .0) (e .1))
+
+returns-3 : tie.Need-returns-3
+returns-3 c = c .with-twos .ensures
 
 pub gcd-spec : {M : Type 1} → statement M
-gcd-spec = tie.close (tie.spec gcd-wide-requires cast-result returns)
+gcd-spec = tie.close (tie.spec returns returns-2 odd-requires gcd-odd-requires with-twos-requires returns-3)
