@@ -57,7 +57,7 @@ factors-positive (suc p) (suc q) h = (omega arith, omega arith)
 -- ---- whole numbers
 
 -- x is whole already
-whole-lowest : (z : ℤ) (x : Quotient) → x .top ≡ z → x .bottom ≡ 1 → over z 1 ≡ lowest x
+pub whole-lowest : (z : ℤ) (x : Quotient) → x .top ≡ z → x .bottom ≡ 1 → over z 1 ≡ lowest x
 unfolding _≈_
 whole-lowest z x t b =
     sym (lowest-is x (over z 1) (omega (arith, b)) (omega arith) (coprime-one (natAbs z)) (ap₂ (λ (w : ℤ) (k : ℕ). w *ℤ pos k) (sym t) b))
@@ -94,6 +94,9 @@ whole-sum n m e w =
 
 -- ---- the sum of two products of 32 bits fits 64
 
+fits-wide : (z : ℤ) → natAbs z < 9223372036854775808 → SFits w64 z
+fits-wide z h = record { sfits = omega (arith, mag-natAbs z, h) }
+
 module _ (n m : ℤ) (d e : ℕ) (hn : natAbs n ≤ limit) (he : e ≤ limit) (hm : natAbs m ≤ limit) (hd : d ≤ limit) where
   small : (z : ℤ) (k : ℕ) → natAbs z ≤ limit → k ≤ limit → natAbs (z *ℤ pos k) ≤ limit * limit
   small z k h i = rw (natAbs-mul z (pos k)) (mul-le-mul h i)
@@ -102,4 +105,21 @@ module _ (n m : ℤ) (d e : ℕ) (hn : natAbs n ≤ limit) (he : e ≤ limit) (h
   cross-sum-small = omega (arith, natAbs-add (n *ℤ pos e) (m *ℤ pos d), small n e hn he, small m d hm hd)
 
   pub cross-sum-fits : SFits w64 (n *ℤ pos e +ℤ m *ℤ pos d)
-  cross-sum-fits = record { sfits = omega (arith, mag-natAbs (n *ℤ pos e +ℤ m *ℤ pos d), cross-sum-small) }
+  cross-sum-fits = fits-wide (n *ℤ pos e +ℤ m *ℤ pos d) cross-sum-small
+
+-- ---- and so do a product and a sum of whole numbers
+
+module _ (n m : ℤ) (hn : natAbs n ≤ limit) (hm : natAbs m ≤ limit) where
+  pub product-small : natAbs (n *ℤ m) < 9223372036854775808
+  product-small =
+      let h : natAbs (n *ℤ m) ≤ limit * limit = rw (natAbs-mul n m) (mul-le-mul hn hm) in
+      omega (arith, h)
+
+  pub product-fits : SFits w64 (n *ℤ m)
+  product-fits = fits-wide (n *ℤ m) product-small
+
+  pub sum-small : natAbs (n +ℤ m) < 9223372036854775808
+  sum-small = omega (arith, natAbs-add n m)
+
+  pub sum-fits : SFits w64 (n +ℤ m)
+  sum-fits = fits-wide (n +ℤ m) sum-small

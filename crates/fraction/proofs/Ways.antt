@@ -18,7 +18,7 @@ use Rattle.integers.proofs.Casts.{positive-mag, back-of}
 use Rattle.fraction.specs.Outcome.{Outcome, gives, refuses}
 use Rattle.fraction.specs.Quotient.{Quotient, lowest}
 use Rattle.fraction.specs.Fraction.{limit, IsFraction, isFraction, exact, within, onFractions, order, less, equal, greater}
-use Rattle.fraction.specs.Meaning.{and-true}
+use Rattle.fraction.specs.Meaning.{and-true, exact-positive}
 use Rattle.fraction.specs.Parts.{Parts, Shaped, isShaped, lowestTerms, over}
 use Rattle.fraction.specs.declared.Fraction.{Fraction}
 
@@ -68,6 +68,9 @@ module _ (f : Fraction) (t : Told f) where
 
 pub parts-of : (n : ℤ) (d : ℕ) → Shaped n d → lowestTerms n d ≡ true → Parts n d
 parts-of n d h e = record { positive = h .positive; num-within = h .num-within; den-within = h .den-within; lowest-terms = eqb-true (gcd (natAbs n) d) 1 e }
+
+pub parts-is : (f : Fraction) → IsFraction f → Parts (f .num) (natAbs (f .den))
+parts-is f v = record { positive = exact-positive f v; num-within = v .num-within; den-within = v .den-within; lowest-terms = v .lowest-terms }
 
 -- a whole number is in lowest terms
 pub whole-lowest-terms : (p d : ℕ) → d ≡ 1 → eqb (gcd p d) 1 ≡ true

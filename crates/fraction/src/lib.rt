@@ -10,7 +10,7 @@ ghost use Rattle.integers.specs.Gcd.{gcd as gcdOf};
 ghost use Rattle.integers.specs.Binary.{Odd, oddOf, Narrow, Paired, Stepped, Going};
 ghost use Rattle.integers.specs.Signs.{withSign};
 ghost use Rattle.fraction.specs.Quotient.{_+Q_, _*Q_, lowest, floorZ, ceilingZ};
-ghost use Rattle.fraction.specs.Fraction.{limit, isFraction, onFractions, within as withinOf, reducedOf, productOf, sumOf, compareOf, order, floorOf, ceilingOf, arithmeticSays, comparisonSays, roundingSays};
+ghost use Rattle.fraction.specs.Fraction.{limit, IsFraction, isFraction, onFractions, within as withinOf, reducedOf, productOf, sumOf, after, addProductOf, compareOf, order, floorOf, ceilingOf, arithmeticSays, comparisonSays, roundingSays};
 ghost use Rattle.fraction.specs.Outcome.{gives};
 ghost use Rattle.fraction.specs.Parts.{Parts, Shaped, Worked, isShaped, lowestTerms, over};
 
@@ -419,6 +419,80 @@ pub fn sum(a: Fraction, b: Fraction) -> Arithmetic
     } else {
         Arithmetic::NotAFraction
     }
+}
+
+fn is_whole(f: Fraction) -> bool
+    ensures { λ r. ⌜ r ≡ isShaped f && eqb (natAbs (f .den)) 1 ⌝ }
+{
+    if is_shaped(f) {
+        magnitude(f.den) == 1
+    } else {
+        false
+    }
+}
+
+fn multiplied(n: i32, m: i32) -> i64
+    requires { ⌜ (natAbs n ≤ limit) × (natAbs m ≤ limit) ⌝ }
+    ensures { λ r. ⌜ (r ≡ n *ℤ m) × (natAbs r < 9223372036854775808) ⌝ }
+{
+    (n as i64) * (m as i64)
+}
+
+fn added(s: i32, w: i64) -> i64
+    requires { ⌜ (natAbs s ≤ limit) × (natAbs w ≤ limit) ⌝ }
+    ensures { λ r. ⌜ (r ≡ s +ℤ w) × (natAbs r < 9223372036854775808) ⌝ }
+{
+    (s as i64) + w
+}
+
+// s + n * m, whole numbers.
+fn add_product_whole(s: i32, n: i32, m: i32) -> Arithmetic
+    requires { ⌜ (natAbs s ≤ limit) × (natAbs n ≤ limit) × (natAbs m ≤ limit) ⌝ }
+    ensures { λ r. ⌜ arithmeticSays r ≡ after (withinOf (over (n *ℤ m) 1)) (λ p. withinOf (over (s +ℤ p .num) 1)) ⌝ }
+{
+    let w = multiplied(n, m);
+    if magnitude_wide(w) > LIMIT {
+        return Arithmetic::TooWide;
+    }
+    let t = added(s, w);
+    within(t < 0, magnitude_wide(t), 1)
+}
+
+// The sum with a fraction p, which is not tested again.
+fn add_known(s: Fraction, p: Fraction) -> Arithmetic
+    requires { ⌜ IsFraction p ⌝ }
+    ensures { λ r. ⌜ arithmeticSays r ≡ sumOf s p ⌝ }
+{
+    if is_whole(s) {
+        plus_whole(s.num, p.num, magnitude(p.den))
+    } else {
+        sum(s, p)
+    }
+}
+
+fn add_product_any(s: Fraction, a: Fraction, b: Fraction) -> Arithmetic
+    ensures { λ r. ⌜ arithmeticSays r ≡ addProductOf s a b ⌝ }
+{
+    let product = product(a, b);
+    match product {
+        Arithmetic::Value(p) => add_known(s, p),
+        Arithmetic::NotAFraction => Arithmetic::NotAFraction,
+        Arithmetic::TooWide => Arithmetic::TooWide,
+    }
+}
+
+// A sum and a product more: a * b, then sum + a * b, each brought to lowest terms within the limit.
+pub fn add_product(sum: Fraction, a: Fraction, b: Fraction) -> Arithmetic
+    ensures { λ r. ⌜ arithmeticSays r ≡ addProductOf sum a b ⌝ }
+{
+    if is_whole(a) {
+        if is_whole(b) {
+            if is_whole(sum) {
+                return add_product_whole(sum.num, a.num, b.num);
+            }
+        }
+    }
+    add_product_any(sum, a, b)
 }
 
 // The numerator of a times the denominator of b.
