@@ -2,3 +2,4 @@
 mod Rounded
 mod Ways
 mod Lowest
+mod Whole

@@ -63,6 +63,14 @@ productOf a b = onFractions (isFraction a && isFraction b) (within (lowest (exac
 abbrev pub sumOf : Fraction → Fraction → Outcome Fraction
 sumOf a b = onFractions (isFraction a && isFraction b) (within (lowest (exact a +Q exact b)))
 
+-- a sum and a product more: the product, then the sum with what it gives
+abbrev pub after : Outcome Fraction → (Fraction → Outcome Fraction) → Outcome Fraction
+after (gives p) next = next p
+after (refuses n) next = refuses n
+
+abbrev pub addProductOf : Fraction → Fraction → Fraction → Outcome Fraction
+addProductOf sum a b = after (productOf a b) (sumOf sum)
+
 -- "Comparisons are exact, never 12"
 pub data Order : Type 0 where
   less : Order

@@ -25,7 +25,7 @@ and-comm false false = refl
 *Q-comm : (x y : Quotient) → x *Q y ≡ y *Q x
 *Q-comm x y = rw (*ℤ-comm (x .top) (y .top), mul-comm (x .bottom) (y .bottom))
 
-+Q-comm : (x y : Quotient) → x +Q y ≡ y +Q x
+pub +Q-comm : (x y : Quotient) → x +Q y ≡ y +Q x
 +Q-comm x y = rw (+ℤ-comm (x .top *ℤ pos (y .bottom)) (y .top *ℤ pos (x .bottom)), mul-comm (x .bottom) (y .bottom))
 
 pub product-comm : (a b : Fraction) → productOf a b ≡ productOf b a

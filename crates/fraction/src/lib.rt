@@ -3,14 +3,16 @@
 ghost use mathlib.Core.Path.{_≡_};
 ghost use mathlib.Core.Bool.{_&&_};
 ghost use Prim.Native.Nat.{ℕ, _*_, _≤_, _<_};
+ghost use lib.Dec.{eqb};
 ghost use lib.IntN.{ℤ, pos, natAbs, _*ℤ_, _+ℤ_};
 ghost use lib.Signed.{_<ℤ_};
 ghost use Rattle.integers.specs.Gcd.{gcd as gcdOf};
+ghost use Rattle.integers.specs.Binary.{Odd, oddOf, Narrow, Paired, Stepped, Going};
 ghost use Rattle.integers.specs.Signs.{withSign};
 ghost use Rattle.fraction.specs.Quotient.{_+Q_, _*Q_, lowest, floorZ, ceilingZ};
-ghost use Rattle.fraction.specs.Fraction.{limit, isFraction, within as withinOf, reducedOf, productOf, sumOf, compareOf, order, floorOf, ceilingOf, arithmeticSays, comparisonSays, roundingSays};
+ghost use Rattle.fraction.specs.Fraction.{limit, IsFraction, isFraction, onFractions, within as withinOf, reducedOf, productOf, sumOf, after, addProductOf, compareOf, order, floorOf, ceilingOf, arithmeticSays, comparisonSays, roundingSays};
 ghost use Rattle.fraction.specs.Outcome.{gives};
-ghost use Rattle.fraction.specs.Parts.{Parts, over};
+ghost use Rattle.fraction.specs.Parts.{Parts, Shaped, Worked, isShaped, lowestTerms, over};
 
 // The largest magnitude of a numerator or a denominator.
 const LIMIT: u64 = 2147483647;
@@ -42,32 +44,136 @@ pub enum Rounding {
     NotAFraction,
 }
 
-// The greatest common divisor, by Euclid's loop.
-fn gcd(a: u32, b: u32) -> u32
+// The greatest common divisor of odd numbers: the lesser is taken off the greater, and what is left is halved until it is odd.
+// The wrapped difference has as many zeros at its end as the difference, so they are counted while the numbers are compared.
+fn gcd_odd(a: u64, b: u64) -> u64
+    requires { ⌜ Odd a × Odd b ⌝ }
     ensures { λ r. ⌜ r ≡ gcdOf a b ⌝ }
 {
     let mut x = a;
     let mut y = b;
-    while y != 0 {
-        let t = x % y;
-        x = y;
-        y = t;
+    while x != y {
+        let t = u64::trailing_zeros(std::num::wrapping_sub_u64(x, y));
+        if x < y {
+            y = (y - x) >> t;
+        } else {
+            let z = x - y;
+            x = y;
+            y = z >> t;
+        }
     }
     x
 }
 
-// The same, of numbers of 64 bits.
-fn gcd_wide(a: u64, b: u64) -> u64
+// Two numbers whose greatest common divisor is wanted.
+struct Pair {
+    x: u64,
+    y: u64,
+}
+
+fn paired(a: u32, b: u32) -> Pair
+    ensures { λ r. ⌜ (r .x ≡ a) × (r .y ≡ b) ⌝ }
+{
+    Pair {
+        x: a as u64,
+        y: b as u64,
+    }
+}
+
+// Both without their factors of two.
+fn odd(p: Pair) -> Pair
+    requires { ⌜ (0 < p .x) × (0 < p .y) ⌝ }
+    ensures { λ r. ⌜ (r .x ≡ oddOf (p .x)) × (r .y ≡ oddOf (p .y)) ⌝ }
+{
+    let x = p.x;
+    let y = p.y;
+    Pair {
+        x: x >> u64::trailing_zeros(x),
+        y: y >> u64::trailing_zeros(y),
+    }
+}
+
+// The greatest common divisor from that of the odd numbers: of the powers of two that divide x and y, the lesser divides both.
+fn with_twos(p: Pair, g: u64) -> u64
+    requires { ⌜ (0 < p .x) × (0 < p .y) × (g ≡ gcdOf (oddOf (p .x)) (oddOf (p .y))) ⌝ }
+    ensures { λ r. ⌜ r ≡ gcdOf (p .x) (p .y) ⌝ }
+{
+    let i = u64::trailing_zeros(p.x);
+    let j = u64::trailing_zeros(p.y);
+    if i < j { g << i } else { g << j }
+}
+
+fn gcd(a: u64, b: u64) -> u64
     ensures { λ r. ⌜ r ≡ gcdOf a b ⌝ }
 {
-    let mut x = a;
-    let mut y = b;
-    while y != 0 {
-        let t = x % y;
-        x = y;
-        y = t;
+    if a == 0 {
+        return b;
     }
-    x
+    if b == 0 {
+        return a;
+    }
+    let p = Pair { x: a, y: b };
+    let o = odd(p);
+    with_twos(p, gcd_odd(o.x, o.y))
+}
+
+// One step of `gcds`. The sum with 2^63 has as many zeros at its end as the difference of x and y, where there is one.
+fn step(p: Pair) -> Pair
+    requires { ⌜ Paired 9223372036854775808 (p .x) (p .y) ⌝ }
+    ensures { λ r. ⌜ Stepped 9223372036854775808 (p .x) (p .y) (r .x) (r .y) ⌝ }
+{
+    let x = p.x;
+    let y = p.y;
+    let t = u64::trailing_zeros(x + 9223372036854775808 - y);
+    if x < y {
+        Pair {
+            x: (y - x) >> t,
+            y: x,
+        }
+    } else {
+        Pair {
+            x: (x - y) >> t,
+            y: y,
+        }
+    }
+}
+
+// The greatest common divisor of a, where the steps have led to p.
+fn reached(a: Pair, p: Pair) -> u64
+    requires { ⌜ Narrow (a .x) (a .y) × Going (a .x) (a .y) (p .x) (p .y) × (p .y ≤ 1) ⌝ }
+    ensures { λ r. ⌜ r ≡ gcdOf (a .x) (a .y) ⌝ }
+{
+    if p.y == 1 {
+        with_twos(a, 1)
+    } else {
+        with_twos(a, p.x)
+    }
+}
+
+struct Divisors {
+    a: u64,
+    b: u64,
+    c: u64,
+}
+
+// Three greatest common divisors in one loop. Their steps do not wait for each other, and the loop ends only once.
+fn gcds(a: Pair, b: Pair, c: Pair) -> Divisors
+    requires { ⌜ Narrow (a .x) (a .y) × Narrow (b .x) (b .y) × Narrow (c .x) (c .y) ⌝ }
+    ensures { λ r. ⌜ (r .a ≡ gcdOf (a .x) (a .y)) × (r .b ≡ gcdOf (b .x) (b .y)) × (r .c ≡ gcdOf (c .x) (c .y)) ⌝ }
+{
+    let mut p = odd(a);
+    let mut q = odd(b);
+    let mut r = odd(c);
+    while (p.y | q.y | r.y) > 1 {
+        p = step(p);
+        q = step(q);
+        r = step(r);
+    }
+    Divisors {
+        a: reached(a, p),
+        b: reached(b, q),
+        c: reached(c, r),
+    }
 }
 
 fn magnitude_wide(x: i64) -> u64
@@ -105,24 +211,39 @@ fn wide_signed(n: i32, d: u32) -> i64
     (n as i64) * (d as i64)
 }
 
-// Whether a pair is a fraction in lowest terms within the limit. A whole number needs no greatest common divisor.
-fn is_fraction(f: Fraction) -> bool
-    ensures { λ r. ⌜ r ≡ isFraction f ⌝ }
+// Whether p / d has no common divisors. A whole number needs no greatest common divisor.
+fn lowest_terms(p: u32, d: u32) -> bool
+    ensures { λ r. ⌜ r ≡ eqb (gcdOf p d) 1 ⌝ }
+{
+    if d == 1 {
+        true
+    } else {
+        gcd(p as u64, d as u64) == 1
+    }
+}
+
+// Whether a pair is a fraction if it is in lowest terms.
+fn is_shaped(f: Fraction) -> bool
+    ensures { λ r. ⌜ r ≡ isShaped f ⌝ }
 {
     let n = f.num;
     let d = f.den;
     if d <= 0 {
-        return false;
+        false
+    } else {
+        (magnitude(n) as u64) <= LIMIT
     }
-    let p = magnitude(n);
-    if (p as u64) > LIMIT {
-        return false;
+}
+
+// Whether a pair is a fraction in lowest terms within the limit.
+fn is_fraction(f: Fraction) -> bool
+    ensures { λ r. ⌜ r ≡ isFraction f ⌝ }
+{
+    if is_shaped(f) {
+        lowest_terms(magnitude(f.num), magnitude(f.den))
+    } else {
+        false
     }
-    let q = magnitude(d);
-    if q == 1 {
-        return true;
-    }
-    gcd(p, q) == 1
 }
 
 fn both(a: Fraction, b: Fraction) -> bool
@@ -158,15 +279,59 @@ pub fn reduced(negative: bool, n: u64, d: u64) -> Arithmetic
     if d == 0 {
         return Arithmetic::NotAFraction;
     }
-    let g = gcd_wide(n, d);
+    let g = gcd(n, d);
     within(negative, n / g, d / g)
 }
 
-// n / d times m / e. The common divisors of n and e, and of m and d, are divided out before the products are formed: what
-// is left is in lowest terms, and no loop runs on more than 32 bits.
+fn both_lowest(p: u32, d: u32, q: u32, e: u32) -> bool
+    ensures { λ r. ⌜ r ≡ eqb (gcdOf p d) 1 && eqb (gcdOf q e) 1 ⌝ }
+{
+    if lowest_terms(p, d) {
+        lowest_terms(q, e)
+    } else {
+        false
+    }
+}
+
+// The quotient c, negated if asked, brought to lowest terms, if the quotients a and b are in lowest terms.
+fn lowest_after(a: Pair, b: Pair, neg: bool, c: Pair) -> Arithmetic
+    requires { ⌜ Narrow (a .x) (a .y) × Narrow (b .x) (b .y) × Narrow (c .x) (c .y) ⌝ }
+    ensures { λ r. ⌜ arithmeticSays r ≡ onFractions (eqb (gcdOf (a .x) (a .y)) 1 && eqb (gcdOf (b .x) (b .y)) 1) (withinOf (lowest (over (withSign neg (c .x)) (c .y)))) ⌝ }
+{
+    let v = gcds(a, b, c);
+    if v.a != 1 {
+        return Arithmetic::NotAFraction;
+    }
+    if v.b != 1 {
+        return Arithmetic::NotAFraction;
+    }
+    let g = v.c;
+    within(neg, c.x / g, c.y / g)
+}
+
+// n / (d * e), negated if asked, brought to lowest terms, if p / d and q / e are in lowest terms.
+fn worked_out(p: u32, d: u32, q: u32, e: u32, neg: bool, n: u64) -> Arithmetic
+    requires { ⌜ Worked p d q e n ⌝ }
+    ensures { λ r. ⌜ arithmeticSays r ≡ onFractions (eqb (gcdOf p d) 1 && eqb (gcdOf q e) 1) (withinOf (lowest (over (withSign neg n) (d * e)))) ⌝ }
+{
+    if n != 0 {
+        let c = Pair {
+            x: n,
+            y: wide(d, e),
+        };
+        return lowest_after(paired(p, d), paired(q, e), neg, c);
+    }
+    if both_lowest(p, d, q, e) {
+        within(neg, 0, 1)
+    } else {
+        Arithmetic::NotAFraction
+    }
+}
+
+// n / d times m / e.
 fn times(n: i32, d: u32, m: i32, e: u32) -> Arithmetic
-    requires { ⌜ Parts n d × Parts m e ⌝ }
-    ensures { λ r. ⌜ arithmeticSays r ≡ withinOf (lowest (over n d *Q over m e)) ⌝ }
+    requires { ⌜ Shaped n d × Shaped m e ⌝ }
+    ensures { λ r. ⌜ arithmeticSays r ≡ onFractions (lowestTerms n d && lowestTerms m e) (withinOf (lowest (over n d *Q over m e))) ⌝ }
 {
     let neg = (n < 0) != (m < 0);
     let p = magnitude(n);
@@ -176,9 +341,7 @@ fn times(n: i32, d: u32, m: i32, e: u32) -> Arithmetic
             return within(neg, wide(p, q), 1);
         }
     }
-    let g = gcd(p, e);
-    let h = gcd(q, d);
-    within(neg, wide(p / g, q / h), wide(d / h, e / g))
+    worked_out(p, d, q, e, neg, wide(p, q))
 }
 
 // n * e + m * d.
@@ -189,37 +352,59 @@ fn cross_sum(n: i32, e: u32, m: i32, d: u32) -> i64
     wide_signed(n, e) + wide_signed(m, d)
 }
 
-// n plus m, whole numbers.
-fn plus_whole(n: i32, m: i32) -> Arithmetic
-    requires { ⌜ (natAbs n ≤ limit) × (natAbs m ≤ limit) ⌝ }
-    ensures { λ r. ⌜ arithmeticSays r ≡ withinOf (over (n +ℤ m) 1) ⌝ }
+// n plus m / e, n a whole number: no common divisors are to be divided out.
+fn plus_whole(n: i32, m: i32, e: u32) -> Arithmetic
+    requires { ⌜ (natAbs n ≤ limit) × Parts m e ⌝ }
+    ensures { λ r. ⌜ arithmeticSays r ≡ withinOf (lowest (over n 1 +Q over m e)) ⌝ }
 {
-    let s = cross_sum(n, 1, m, 1);
-    within(s < 0, magnitude_wide(s), 1)
+    let t = cross_sum(n, e, m, 1);
+    within(t < 0, magnitude_wide(t), e as u64)
 }
 
-// n / d plus m / e. With g the common divisor of d and e, the sum is t / (d / g * e) for t = n * (e / g) + m * (d / g), and
-// only divisors of g are left to divide out.
+// n / d plus m / e, neither of them a whole number. 0 is whole.
+fn plus_fractions(n: i32, d: u32, m: i32, e: u32) -> Arithmetic
+    requires { ⌜ (Shaped n d × Shaped m e) × ((1 < d) × (1 < e)) ⌝ }
+    ensures { λ r. ⌜ arithmeticSays r ≡ onFractions (lowestTerms n d && lowestTerms m e) (withinOf (lowest (over n d +Q over m e))) ⌝ }
+{
+    let p = magnitude(n);
+    let q = magnitude(m);
+    if wide(p, q) == 0 {
+        return Arithmetic::NotAFraction;
+    }
+    let t = cross_sum(n, e, m, d);
+    worked_out(p, d, q, e, t < 0, magnitude_wide(t))
+}
+
+// n / d plus m / e.
 fn plus(n: i32, d: u32, m: i32, e: u32) -> Arithmetic
-    requires { ⌜ Parts n d × Parts m e ⌝ }
-    ensures { λ r. ⌜ arithmeticSays r ≡ withinOf (lowest (over n d +Q over m e)) ⌝ }
+    requires { ⌜ Shaped n d × Shaped m e ⌝ }
+    ensures { λ r. ⌜ arithmeticSays r ≡ onFractions (lowestTerms n d && lowestTerms m e) (withinOf (lowest (over n d +Q over m e))) ⌝ }
 {
     if d == 1 {
-        if e == 1 {
-            return plus_whole(n, m);
+        if lowest_terms(magnitude(m), e) {
+            return plus_whole(n, m, e);
         }
+        return Arithmetic::NotAFraction;
     }
-    let g = gcd(d, e);
-    let t = cross_sum(n, e / g, m, d / g);
-    let p = magnitude_wide(t);
-    let h = gcd(g, (p % (g as u64)) as u32);
-    within(t < 0, p / (h as u64), wide(d / g, e / h))
+    if e == 1 {
+        if lowest_terms(magnitude(n), d) {
+            return plus_whole(m, n, d);
+        }
+        return Arithmetic::NotAFraction;
+    }
+    plus_fractions(n, d, m, e)
+}
+
+fn both_shaped(a: Fraction, b: Fraction) -> bool
+    ensures { λ r. ⌜ r ≡ isShaped a && isShaped b ⌝ }
+{
+    if is_shaped(a) { is_shaped(b) } else { false }
 }
 
 pub fn product(a: Fraction, b: Fraction) -> Arithmetic
     ensures { λ r. ⌜ arithmeticSays r ≡ productOf a b ⌝ }
 {
-    if both(a, b) {
+    if both_shaped(a, b) {
         times(a.num, magnitude(a.den), b.num, magnitude(b.den))
     } else {
         Arithmetic::NotAFraction
@@ -229,11 +414,85 @@ pub fn product(a: Fraction, b: Fraction) -> Arithmetic
 pub fn sum(a: Fraction, b: Fraction) -> Arithmetic
     ensures { λ r. ⌜ arithmeticSays r ≡ sumOf a b ⌝ }
 {
-    if both(a, b) {
+    if both_shaped(a, b) {
         plus(a.num, magnitude(a.den), b.num, magnitude(b.den))
     } else {
         Arithmetic::NotAFraction
     }
+}
+
+fn is_whole(f: Fraction) -> bool
+    ensures { λ r. ⌜ r ≡ isShaped f && eqb (natAbs (f .den)) 1 ⌝ }
+{
+    if is_shaped(f) {
+        magnitude(f.den) == 1
+    } else {
+        false
+    }
+}
+
+fn multiplied(n: i32, m: i32) -> i64
+    requires { ⌜ (natAbs n ≤ limit) × (natAbs m ≤ limit) ⌝ }
+    ensures { λ r. ⌜ (r ≡ n *ℤ m) × (natAbs r < 9223372036854775808) ⌝ }
+{
+    (n as i64) * (m as i64)
+}
+
+fn added(s: i32, w: i64) -> i64
+    requires { ⌜ (natAbs s ≤ limit) × (natAbs w ≤ limit) ⌝ }
+    ensures { λ r. ⌜ (r ≡ s +ℤ w) × (natAbs r < 9223372036854775808) ⌝ }
+{
+    (s as i64) + w
+}
+
+// s + n * m, whole numbers.
+fn add_product_whole(s: i32, n: i32, m: i32) -> Arithmetic
+    requires { ⌜ (natAbs s ≤ limit) × (natAbs n ≤ limit) × (natAbs m ≤ limit) ⌝ }
+    ensures { λ r. ⌜ arithmeticSays r ≡ after (withinOf (over (n *ℤ m) 1)) (λ p. withinOf (over (s +ℤ p .num) 1)) ⌝ }
+{
+    let w = multiplied(n, m);
+    if magnitude_wide(w) > LIMIT {
+        return Arithmetic::TooWide;
+    }
+    let t = added(s, w);
+    within(t < 0, magnitude_wide(t), 1)
+}
+
+// The sum with a fraction p, which is not tested again.
+fn add_known(s: Fraction, p: Fraction) -> Arithmetic
+    requires { ⌜ IsFraction p ⌝ }
+    ensures { λ r. ⌜ arithmeticSays r ≡ sumOf s p ⌝ }
+{
+    if is_whole(s) {
+        plus_whole(s.num, p.num, magnitude(p.den))
+    } else {
+        sum(s, p)
+    }
+}
+
+fn add_product_any(s: Fraction, a: Fraction, b: Fraction) -> Arithmetic
+    ensures { λ r. ⌜ arithmeticSays r ≡ addProductOf s a b ⌝ }
+{
+    let product = product(a, b);
+    match product {
+        Arithmetic::Value(p) => add_known(s, p),
+        Arithmetic::NotAFraction => Arithmetic::NotAFraction,
+        Arithmetic::TooWide => Arithmetic::TooWide,
+    }
+}
+
+// A sum and a product more: a * b, then sum + a * b, each brought to lowest terms within the limit.
+pub fn add_product(sum: Fraction, a: Fraction, b: Fraction) -> Arithmetic
+    ensures { λ r. ⌜ arithmeticSays r ≡ addProductOf sum a b ⌝ }
+{
+    if is_whole(a) {
+        if is_whole(b) {
+            if is_whole(sum) {
+                return add_product_whole(sum.num, a.num, b.num);
+            }
+        }
+    }
+    add_product_any(sum, a, b)
 }
 
 // The numerator of a times the denominator of b.

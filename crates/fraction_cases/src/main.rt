@@ -67,6 +67,18 @@ fn sum(a: i32, b: i32, c: i32, d: i32) {
     value(fraction::sum(x, y));
 }
 
+fn add_product(a: i32, b: i32, c: i32, d: i32, e: i32, f: i32) {
+    let x = Fraction { num: a, den: b };
+    let y = Fraction { num: c, den: d };
+    let z = Fraction { num: e, den: f };
+    show(x);
+    text(b" + ");
+    show(y);
+    text(b" * ");
+    show(z);
+    value(fraction::add_product(x, y, z));
+}
+
 fn compare(a: i32, b: i32, c: i32, d: i32) {
     let x = Fraction { num: a, den: b };
     let y = Fraction { num: c, den: d };
@@ -176,6 +188,39 @@ fn sums() {
     sum(2147483647, 2147483646, 2147483647, 2147483645);
 }
 
+// Whole numbers, fractions and 0; then what is refused: an operand, a product, a sum.
+fn sums_of_products() {
+    add_product(5, 1, -3, 1, 4, 1);
+    add_product(7, 1, 0, 1, -9, 1);
+    add_product(2147483647, 1, 46340, 1, -46341, 1);
+    add_product(1, 2, 2, 3, 3, 4);
+    add_product(-1, 6, 5, 4, 2, 15);
+    add_product(3, 1, 1, 2, 1, 3);
+    add_product(1, 3, 2, 1, 5, 1);
+    add_product(-1, 2, 3, 4, 2, 3);
+    add_product(5, 7, 0, 1, 1, 3);
+    add_product(0, 1, 1, 3, 0, 1);
+    add_product(-4, 1, -1, 2, 6, 1);
+    add_product(1, 1, 2, 4, 1, 1);
+    add_product(1, 1, 1, 1, 1, 0);
+    add_product(2, 4, 1, 2, 1, 3);
+    add_product(0, 5, 1, 1, 1, 1);
+    add_product(-2147483648, 1, 2, 1, 3, 1);
+    add_product(1, 1, -2147483648, 1, 1, 1);
+    add_product(1, 1, 2, 1, -2147483648, 1);
+    add_product(-2147483648, 1, 0, 1, 0, 1);
+    add_product(1, 1, 65536, 1, 32768, 1);
+    add_product(-2147483647, 1, 65536, 1, 32768, 1);
+    add_product(2, 4, 65536, 1, 32768, 1);
+    add_product(1, 2, 1, 65536, 1, 32768);
+    add_product(2147483647, 1, 1, 1, 1, 1);
+    add_product(-2147483647, 1, 1, 1, -1, 1);
+    add_product(2147483646, 1, 1, 1, 1, 1);
+    add_product(1, 46341, 1, 46342, 1, 1);
+    add_product(2147483647, 1, 1, 2, 1, 1);
+    add_product(1073741823, 1, 1, 2, 1, 1);
+}
+
 fn comparisons() {
     compare(1, 3, 1, 2);
     compare(-1, 3, -1, 2);
@@ -209,6 +254,7 @@ fn main() {
     operands();
     products();
     sums();
+    sums_of_products();
     comparisons();
     roundings();
 }

@@ -1,10 +1,10 @@
--- Numbers with no common divisor but 1, and what follows for quotients: lowest terms are unique, and a product or a sum of
--- quotients in lowest terms is brought to lowest terms by dividing out the common divisors of its parts.
+-- Numbers with no common divisor but 1, and what follows for quotients: lowest terms are unique, and a sum of quotients in lowest
+-- terms whose denominators are coprime is in lowest terms.
 -- Assumes nothing.
 use mathlib.Core.Path.{_≡_, refl, sym, _∙_, ap, subst}
 use mathlib.Core.Bool.{Bool, true, false, cond}
 use Prim.Native.Nat.{ℕ, zero, suc, _+_, _*_, _-_, _/_, _≤_, _<_, _∣_}
-use native.Mathlib.Nat.{dvd-refl, dvd-zero, dvd-mul-right, dvd-mul-left, dvd-mul-left-of-dvd, dvd-mul-right-of-dvd, dvd-trans, dvd-antisymm, dvd-add, dvd-sub, eq-one-of-dvd-one, mul-one, mul-assoc, mul-comm, mul-div-cancel', div-mul-cancel, eq-of-mul-eq-mul-left, eq-of-mul-eq-mul-right}
+use native.Mathlib.Nat.{dvd-refl, dvd-zero, dvd-mul-left, dvd-mul-left-of-dvd, dvd-mul-right-of-dvd, dvd-trans, dvd-antisymm, dvd-add, dvd-sub, eq-one-of-dvd-one, mul-one, mul-assoc, mul-comm, mul-div-cancel', div-mul-cancel, eq-of-mul-eq-mul-left, eq-of-mul-eq-mul-right}
 use native.Mathlib.Omega.{arith}
 use borrow.Author.Tests.{ltb-true, ltb-false}
 use lib.Dec.{ltb}
@@ -19,6 +19,9 @@ Coprime a b = gcd a b ≡ 1
 
 pub coprime-of : (a b : ℕ) → ((k : ℕ) → k ∣ a → k ∣ b → k ≡ 1) → Coprime a b
 coprime-of a b f = f (gcd a b) (gcd-left a b) (gcd-right a b)
+
+pub coprime-one : (a : ℕ) → Coprime a 1
+coprime-one a = coprime-of a 1 (λ k p q. eq-one-of-dvd-one q)
 
 pub coprime-common : (a b k : ℕ) → Coprime a b → k ∣ a → k ∣ b → k ≡ 1
 coprime-common a b k e p q = eq-one-of-dvd-one (subst (λ (n : ℕ). k ∣ n) e (gcd-greatest a b k p q))
@@ -104,24 +107,7 @@ sum-coprime n m d e c f g =
     let right : Coprime t e = subst (λ (z : ℤ). Coprime (natAbs z) e) (+ℤ-comm (m *ℤ pos d) (n *ℤ pos e)) (sum-coprime-left m n e d f g) in
     coprime-sym (d * e) t (coprime-mul d e t (coprime-sym t d left) (coprime-sym t e right))
 
--- ---- products
-
 -- a / g * b = a * (b / g), for a common divisor g
 pub exchange : (a b g : ℕ) → g ∣ a → g ∣ b → a / g * b ≡ a * (b / g)
 exchange a b g p q =
     ap (λ (x : ℕ). a / g * x) (sym (mul-div-cancel' g q)) ∙ sym (mul-assoc (a / g) g (b / g)) ∙ ap (λ (x : ℕ). x * (b / g)) (div-mul-cancel g p)
-
--- p / u times q / v, both in lowest terms: what is left after the crosswise common divisors are divided out is coprime
-pub product-coprime : (p u q v : ℕ) → Coprime p u → Coprime q v → 0 < u → 0 < v → Coprime (p / gcd p v * (q / gcd q u)) (u / gcd q u * (v / gcd p v))
-product-coprime p u q v e f hu hv =
-    let g = gcd p v in
-    let h = gcd q u in
-    let part : (a k : ℕ) → k ∣ a → a / k ∣ a = λ a k d. subst (λ (n : ℕ). a / k ∣ n) (div-mul-cancel k d) (dvd-mul-right (a / k) k) in
-    let pu : Coprime (p / g) (u / h) = coprime-parts p u (p / g) (u / h) e (part p g (gcd-left p v)) (part u h (gcd-right q u)) in
-    let pv : Coprime (p / g) (v / g) = coprime-quotients p v hv in
-    let qu : Coprime (q / h) (u / h) = coprime-quotients q u hu in
-    let qv : Coprime (q / h) (v / g) = coprime-parts q v (q / h) (v / g) f (part q h (gcd-left q u)) (part v g (gcd-right p v)) in
-    let l = p / g * (q / h) in
-    let lu : Coprime l (u / h) = coprime-mul (p / g) (q / h) (u / h) pu qu in
-    let lv : Coprime l (v / g) = coprime-mul (p / g) (q / h) (v / g) pv qv in
-    coprime-sym (u / h * (v / g)) l (coprime-mul (u / h) (v / g) l (coprime-sym l (u / h) lu) (coprime-sym l (v / g) lv))

@@ -4,3 +4,4 @@ pub mod Integers
 pub mod Ring
 pub mod Gcd
 pub mod Coprime
+pub mod Binary

@@ -1,31 +1,37 @@
--- `fraction::gcd` meets its contract. Invariant: the greatest common divisor of x and y is that of a and b; y falls.
-use mathlib.Core.Path.{_≡_, refl, sym, _∙_, ap}
+-- `fraction::gcd` meets its contract: what is odd of a and b goes to `gcd_odd`, and the lesser power of two comes back.
+use mathlib.Core.Path.{_≡_, sym, _∙_, ap, ap₂, subst}
+use Prim.Native.Nat.{ℕ}
 use native.Mathlib.Omega.{arith}
-use native.Mathlib.Nat.{mod-lt}
 use Rattle.fraction.proofs.gcd.Statement.{statement}
 use Rattle.fraction.proofs.gcd.Tie as tie
-use Rattle.integers.specs.Gcd.{gcd, gcd-zero, gcd-step}
+use Rattle.fraction.proofs.gcd_odd.Reads as gcd-odd-reads
+use Rattle.fraction.proofs.odd.Reads as odd-reads
+use Rattle.fraction.proofs.with_twos.Reads as with-twos-reads
+use Rattle.integers.specs.Gcd.{gcd, gcd-zero}
+use Rattle.integers.specs.Binary.{Odd, twos, gcd-zero-left}
 
-abbrev Inv-loop : tie.InvT-loop
-Inv-loop a b x₀ y₀ x y = gcd x y ≡ gcd a b
+returns : tie.Need-returns
+returns c = sym (ap (λ (n : ℕ). gcd n (c .before .args .b)) (c .if1 .taken) ∙ gcd-zero-left _)
 
-abbrev μ-loop : tie.MeasureT-loop
-μ-loop a b x₀ y₀ x y = y
+returns-2 : tie.Need-returns-2
+returns-2 c = sym (ap (gcd (c .before .before .args .a)) (c .if2 .taken) ∙ gcd-zero _)
 
-loop-holds : tie.Need-loop-holds Inv-loop μ-loop
-loop-holds c = refl
+odd-requires : tie.Need-odd-requires
+odd-requires c κs = (omega arith, omega arith)
 
-rem-t : tie.Need-rem-t Inv-loop μ-loop
-rem-t c = omega arith
+gcd-odd-requires : tie.Need-gcd-odd-requires
+gcd-odd-requires c κs =
+    let s = c .before .before .before in
+    let e = c .odd .ensures in
+    (rw (e .0) (twos 64 (s .args .a) (omega arith) (omega arith) .rest-odd), rw (e .1) (twos 64 (s .args .b) (omega arith) (omega arith) .rest-odd))
 
-loop-less : tie.Need-loop-less Inv-loop μ-loop
-loop-less c = mod-lt _ (omega arith)
+with-twos-requires : tie.Need-with-twos-requires
+with-twos-requires c κs =
+    let e = c .before .odd .ensures in
+    (omega arith, omega arith, c .gcd-odd .ensures ∙ ap₂ gcd (e .0) (e .1))
 
-loop-again : tie.Need-loop-again Inv-loop μ-loop
-loop-again c = sym (gcd-step _ _ (omega arith)) ∙ c .before .loop .inv
-
-returns : tie.Need-returns Inv-loop μ-loop
-returns c = sym (gcd-zero _) ∙ ap (gcd (c .before .loop .x)) (sym (omega arith)) ∙ c .before .loop .inv
+returns-3 : tie.Need-returns-3
+returns-3 c = c .with-twos .ensures
 
 pub gcd-spec : {M : Type 1} → statement M
-gcd-spec = tie.close (tie.spec Inv-loop μ-loop loop-holds rem-t loop-less loop-again returns)
+gcd-spec = tie.close (tie.spec returns returns-2 odd-requires gcd-odd-requires with-twos-requires returns-3)

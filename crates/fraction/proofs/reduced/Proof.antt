@@ -15,12 +15,12 @@ use Rattle.fraction.proofs.Lowest.{lowest-by, divisor-positive}
 returns : tie.Need-returns
 returns c = sym (not-fractions _ _ (ap not (eq-eqb (c .before .args .d) 0 (c .if1 .taken))))
 
-gcd-wide-requires : tie.Need-gcd-wide-requires
-gcd-wide-requires c κs = search needs
+gcd-requires : tie.Need-gcd-requires
+gcd-requires c κs = search needs
 
 -- the common divisor is not 0
-positive : (c : tie.After-gcd-wide) → 0 < c .gcd-wide .result
-positive c = let a = c .before .before .args in divisor-positive (a .n) (a .d) (c .gcd-wide .result) (omega (arith, c .before .if1 .left)) (c .gcd-wide .ensures)
+positive : (c : tie.After-gcd) → 0 < c .gcd .result
+positive c = let a = c .before .before .args in divisor-positive (a .n) (a .d) (c .gcd .result) (omega (arith, c .before .if1 .left)) (c .gcd .ensures)
 
 div-within : tie.Need-div-within
 div-within c = omega (arith, positive c)
@@ -34,8 +34,8 @@ within-requires c κs = search needs
 returns-2 : tie.Need-returns-2
 returns-2 c =
     let a = c .before .before .before .args in
-    c .within .ensures ∙ ap within (sym (lowest-by (a .negative) (a .n) (a .d) _ (c .before .gcd-wide .ensures)))
+    c .within .ensures ∙ ap within (sym (lowest-by (a .negative) (a .n) (a .d) _ (c .before .gcd .ensures)))
     ∙ sym (on-fractions _ _ (ap not (ne-eqb (a .d) 0 (c .before .before .if1 .left))))
 
 pub reduced-spec : {M : Type 1} → statement M
-reduced-spec = tie.close (tie.spec returns gcd-wide-requires div-within div-within-2 within-requires returns-2)
+reduced-spec = tie.close (tie.spec returns gcd-requires div-within div-within-2 within-requires returns-2)

@@ -1,16 +1,18 @@
--- `fraction::sum` meets its contract: `plus` works it out of the fields of two fractions.
+-- `fraction::sum` meets its contract: `plus` works it out of the fields.
 use mathlib.Core.Path.{_≡_, sym, _∙_}
 use mathlib.Core.Bool.{true, _&&_}
 use borrow.Author.Needs.{needs}
+use native.Mathlib.Omega.{arith}
 use Rattle.fraction.proofs.sum.Statement.{statement}
 use Rattle.fraction.proofs.sum.Tie as tie
-use Rattle.fraction.proofs.both.Reads as both-reads
+use Rattle.fraction.proofs.both_shaped.Reads as both-shaped-reads
 use Rattle.fraction.proofs.magnitude.Reads as magnitude-reads
 use Rattle.fraction.proofs.plus.Reads as plus-reads
 use Rattle.fraction.specs.Quotient.{_+Q_}
-use Rattle.fraction.specs.Fraction.{isFraction, arithmeticSays}
-use Rattle.fraction.specs.Meaning.{both-are}
-use Rattle.fraction.proofs.Ways.{Told, parts-read, worked-out, not-fractions}
+use Rattle.fraction.specs.Fraction.{arithmeticSays}
+use Rattle.fraction.specs.Parts.{isShaped}
+use Rattle.fraction.specs.Meaning.{and-true}
+use Rattle.fraction.proofs.Ways.{Told, shape-read, worked-out, not-shaped}
 
 told-a : (c : tie.Start) → Told (c .args .a)
 told-a c = let g = c .good .0 .1 .1 in (g .0 .1, g .1 .0 .1)
@@ -18,11 +20,11 @@ told-a c = let g = c .good .0 .1 .1 in (g .0 .1, g .1 .0 .1)
 told-b : (c : tie.Start) → Told (c .args .b)
 told-b c = let g = c .good .1 .0 .1 .1 in (g .0 .1, g .1 .0 .1)
 
-fractions : (c : tie.Then1) → isFraction (c .before .before .args .a) && isFraction (c .before .before .args .b) ≡ true
-fractions c = sym (c .before .both .ensures) ∙ c .if1 .taken
+shaped : (c : tie.Then1) → isShaped (c .before .before .args .a) && isShaped (c .before .before .args .b) ≡ true
+shaped c = sym (c .before .both-shaped .ensures) ∙ c .if1 .taken
 
-both-requires : tie.Need-both-requires
-both-requires c κs = search needs
+both-shaped-requires : tie.Need-both-shaped-requires
+both-shaped-requires c κs = search needs
 
 magnitude-requires : tie.Need-magnitude-requires
 magnitude-requires c κs = search needs
@@ -34,26 +36,26 @@ plus-requires : tie.Need-plus-requires
 plus-requires c κs =
     let m = c .before .before .before .before in
     let s = m .before .before .before .before in
-    let v = both-are (s .args .a) (s .args .b) (fractions (m .before .before)) in (
-      parts-read (s .args .a) _ (told-a s) (m .magnitude .ensures) (v .0),
-      parts-read (s .args .b) _ (told-b s) (c .before .before .magnitude2 .ensures) (v .1),
-    )
+    let v = and-true _ _ (shaped (m .before .before)) in
+    (shape-read (s .args .a) _ (told-a s) (m .magnitude .ensures) (v .0), shape-read (s .args .b) _ (told-b s) (c .before .before .magnitude2 .ensures) (v .1))
 
 returns : tie.Need-returns
 returns c =
     let k = c .before .before .before in
     let m = k .before .before in
     let s = m .before .before .before .before in
-    worked-out _+Q_ (s .args .a) (s .args .b) _ _ (arithmeticSays (c .plus .result)) (told-a s) (told-b s) (m .magnitude .ensures) (k .magnitude2 .ensures) (fractions (m .before .before)) (c .plus .ensures)
+    worked-out _+Q_ (s .args .a) (s .args .b) (told-a s) (told-b s) _ _ (arithmeticSays (c .plus .result)) (m .magnitude .ensures) (k .magnitude2 .ensures) (shaped (m .before .before)) (c .plus .ensures)
 
 returns-2 : tie.Need-returns-2
-returns-2 c = sym (not-fractions _ _ (sym (c .before .both .ensures) ∙ c .if1 .left))
+returns-2 c =
+    let s = c .before .before in
+    sym (not-shaped _+Q_ (s .args .a) (s .args .b) (told-a s) (told-b s) (sym (c .before .both-shaped .ensures) ∙ c .if1 .left))
 
 pub sum-spec : {M : Type 1} → statement M
 sum-spec =
     tie.close
     (tie.spec
-    both-requires
+    both-shaped-requires
     magnitude-requires
     magnitude-requires-2
     plus-requires

@@ -1,25 +1,27 @@
--- `fraction::times` meets its contract: the crosswise common divisors are divided out, and what is left is in lowest terms
--- (`Lowest`).
-use mathlib.Core.Path.{_≡_, _∙_, ap, ap₂}
-use mathlib.Core.Bool.{Bool, not, Bool·beq}
-use Prim.Native.Nat.{ℕ, _<_}
-use borrow.Author.Needs.{needs}
+-- `fraction::times` meets its contract: whole numbers, and then any.
+use mathlib.Core.Path.{_≡_, sym, _∙_, ap, ap₂}
+use mathlib.Core.Bool.{Bool, not, Bool·beq, _&&_}
+use Prim.Native.Nat.{ℕ, _*_, _≤_}
+use native.Mathlib.Nat.{mul-le-mul}
+use lib.Dec.{eqb}
 use lib.IntN.{ℤ, pos, natAbs}
 use lib.Signed.{ltZ}
+use borrow.Author.Needs.{needs}
+use native.Mathlib.Omega.{arith}
 use Rattle.fraction.proofs.times.Statement.{statement}
 use Rattle.fraction.proofs.times.Tie as tie
-use Rattle.fraction.proofs.gcd.Reads as gcd-reads
 use Rattle.fraction.proofs.magnitude.Reads as magnitude-reads
 use Rattle.fraction.proofs.wide.Reads as wide-reads
 use Rattle.fraction.proofs.within.Reads as within-reads
-use Rattle.integers.specs.Signs.{isNegative}
+use Rattle.fraction.proofs.worked_out.Reads as worked-out-reads
 use Rattle.integers.specs.Gcd.{gcd}
+use Rattle.integers.specs.Signs.{isNegative, withSign}
 use Rattle.integers.proofs.Casts.{back, below-zero}
-use Rattle.fraction.specs.Fraction.{within}
+use Rattle.fraction.specs.Quotient.{Quotient, lowest}
+use Rattle.fraction.specs.Fraction.{limit, within, onFractions}
 use Rattle.fraction.specs.Parts.{over}
-use Rattle.integers.specs.Signs.{withSign}
-use Rattle.fraction.proofs.Ways.{read}
-use Rattle.fraction.proofs.Lowest.{divisor-positive, whole-product, product-lowest}
+use Rattle.fraction.proofs.Ways.{read, whole-lowest-terms, both-hold}
+use Rattle.fraction.proofs.Lowest.{factors-positive, product-is, whole-product}
 
 abbrev tested : ℤ → ℤ → Bool
 tested n m = not (Bool·beq (ltZ (read n) (pos 0)) (ltZ (read m) (pos 0)))
@@ -32,12 +34,6 @@ p-is k = k .magnitude .ensures ∙ ap natAbs (back (k .before .fits .n))
 
 q-is : (k : tie.After-magnitude2) → k .magnitude2 .result ≡ natAbs (k .before .before .args .m)
 q-is k = k .magnitude2 .ensures ∙ ap natAbs (back (k .before .before .fits .m))
-
-g-positive : (k : tie.After-gcd) → 0 < k .gcd .result
-g-positive k = divisor-positive _ _ (k .gcd .result) (k .before .before .before .before .pre .1 .positive) (k .gcd .ensures)
-
-h-positive : (k : tie.After-gcd2) → 0 < k .gcd2 .result
-h-positive k = divisor-positive _ _ (k .gcd2 .result) (k .before .before .before .before .before .pre .0 .positive) (k .gcd2 .ensures)
 
 magnitude-requires : tie.Need-magnitude-requires
 magnitude-requires c κs = search needs
@@ -53,49 +49,50 @@ within-requires c κs = search needs
 
 returns : tie.Need-returns
 returns c =
-    let m = c .before .before .before .before in
-    let s = m .before .before in
+    let w = c .before in
+    let one = w .before .before .if1 .taken in
+    let also = w .before .if2 .taken in
+    let k = w .before .before .before in
+    let s = k .before .before in
+    let a = s .args in
     c .within .ensures
     ∙ ap within
-    (ap (λ (w : ℕ). over (withSign (tested (s .args .n) (s .args .m)) w) 1) (c .before .wide .ensures)
-    ∙ whole-product (s .args .n) (s .args .m) (s .args .d) (s .args .e) _ _ _ (sign s) (p-is (m .before)) (q-is m) (c .before .before .before .if1 .taken) (c .before .before .if2 .taken))
-
-gcd-requires : tie.Need-gcd-requires
-gcd-requires c κs = search needs
-
-gcd-requires-2 : tie.Need-gcd-requires-2
-gcd-requires-2 c κs = search needs
-
-div-wide : tie.Need-div-wide
-div-wide c = g-positive (c .before)
-
-div-wide-2 : tie.Need-div-wide-2
-div-wide-2 c = h-positive c
+    (ap (λ (n : ℕ). over (withSign (tested (a .n) (a .m)) n) 1) (w .wide .ensures)
+    ∙ whole-product (a .n) (a .m) (a .d) (a .e) _ _ _ (sign s) (p-is (k .before)) (q-is k) one also)
+    ∙ sym (both-hold _ _ _ (whole-lowest-terms _ _ one) (whole-lowest-terms _ _ also))
 
 wide-requires-2 : tie.Need-wide-requires-2
 wide-requires-2 c κs = search needs
 
-div-wide-3 : tie.Need-div-wide-3
-div-wide-3 c = h-positive (c .before)
-
-div-wide-4 : tie.Need-div-wide-4
-div-wide-4 c = g-positive (c .before .before)
-
-wide-requires-3 : tie.Need-wide-requires-3
-wide-requires-3 c κs = search needs
-
-within-requires-2 : tie.Need-within-requires-2
-within-requires-2 c κs = search needs
+worked-out-requires : tie.Need-worked-out-requires
+worked-out-requires c κs =
+    let k = c .before .before in
+    let s = k .before .before in
+    let h = s .pre in
+    let w = c .wide2 .ensures in
+    let p : k .before .magnitude .result ≤ limit = omega (arith, p-is (k .before), h .0 .num-within) in
+    let q : k .magnitude2 .result ≤ limit = omega (arith, q-is k, h .1 .num-within) in
+    record {
+      positive-d = h .0 .positive;
+      positive-e = h .1 .positive;
+      within-d = h .0 .den-within;
+      within-e = h .1 .den-within;
+      fits = omega (arith, w, mul-le-mul p q);
+      factors = λ i. factors-positive _ _ (omega (arith, w));
+    }
 
 returns-2 : tie.Need-returns-2
 returns-2 c =
-    let h = c .before .before .before in
-    let m = h .before .before .before in
-    let s = m .before .before in
-    c .within2 .ensures
-    ∙ ap within
-    (ap₂ (λ (w x : ℕ). over (withSign (tested (s .args .n) (s .args .m)) w) x) (c .before .before .wide2 .ensures) (c .before .wide3 .ensures)
-    ∙ product-lowest (s .args .n) (s .args .m) (s .args .d) (s .args .e) _ _ _ (sign s) (p-is (m .before)) (q-is m) _ _ (s .pre .0) (s .pre .1) (h .before .gcd .ensures) (h .gcd2 .ensures))
+    let k = c .before .before .before in
+    let s = k .before .before in
+    let a = s .args in
+    let p = p-is (k .before) in
+    let q = q-is k in
+    c .worked-out .ensures
+    ∙ ap₂ (λ (t : Bool) (x : Quotient). onFractions t (within (lowest x)))
+    (ap₂ (λ (n m : ℕ). eqb (gcd n (a .d)) 1 && eqb (gcd m (a .e)) 1) p q)
+    (ap (λ (n : ℕ). over (withSign (tested (a .n) (a .m)) n) (a .d * a .e)) (c .before .wide2 .ensures)
+    ∙ product-is (a .n) (a .m) (a .d) (a .e) _ _ _ (sign s) p q)
 
 pub times-spec : {M : Type 1} → statement M
 times-spec =
@@ -106,13 +103,6 @@ times-spec =
     wide-requires
     within-requires
     returns
-    gcd-requires
-    gcd-requires-2
-    div-wide
-    div-wide-2
     wide-requires-2
-    div-wide-3
-    div-wide-4
-    wide-requires-3
-    within-requires-2
+    worked-out-requires
     returns-2)
