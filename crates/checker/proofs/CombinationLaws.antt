@@ -10,7 +10,6 @@ use borrow.Author.Tests.{not-true, not-false}
 use denote.Enum.Declared.{tagOf}
 use lib.IntN.{ℤ}
 use lib.ListN.{length, getD, set}
-use Rattle.fraction.specs.Outcome.{Outcome}
 use Rattle.fraction.specs.Fraction.{arithmeticSays}
 use Rattle.fraction.proofs.Arithmetic.{the-type}
 use Rattle.fraction.specs.declared.Arithmetic.{Arithmetic}
@@ -30,12 +29,9 @@ use Rattle.checker.proofs.TablesLaws.{noFraction, coefficient-is, coeff
 
 -- ---- answers
 
--- the answer of a product or a sum, at a place: it is a value; it is none
+-- the answer of a product or a sum, at a place
 abbrev pub says : ℕ → Arithmetic → Result Fraction
 says place a = within12 place (arithmeticSays a)
-
-pub value-is : {a : Arithmetic} {f : Fraction} {o : Outcome Fraction} → arithmeticSays a ≡ o → a ≡ Value f → (place : ℕ) → within12 place o ≡ done f
-value-is e v place = ap (within12 place) (sym e ∙ ap arithmeticSays v)
 
 pub is-refused : (a : Arithmetic) → (tagOf the-type a ≡ 1) ⊎ (tagOf the-type a ≡ 2) → (place : ℕ) → says place a ≡ refused 12 place
 is-refused (Value f) (inl e) place = absurd (omega (arith, e))
