@@ -40,10 +40,7 @@ pub(crate) struct Combined {
 pub(crate) fn plus_product(sum: Fraction, a: Fraction, b: Fraction) -> Arithmetic
     ensures { λ r. ⌜ ((place : ℕ) → within12 place (arithmeticSays r) ≡ bind (productAt place a b) (λ p. sumAt place sum p)) ⌝ }
 {
-    let Arithmetic::Value(p) = fraction::product(a, b) else {
-        return Arithmetic::TooWide;
-    };
-    fraction::sum(sum, p)
+    fraction::add_product(sum, a, b)
 }
 
 // Each listed term in order, times the multiplier: the product, then the sum for its variable.
