@@ -2,14 +2,14 @@
 -- Assumes nothing.
 use mathlib.Core.Path.{_≡_, refl, sym, _∙_, ap}
 use mathlib.Core.Bool.{Bool, true, false, _&&_}
-use Prim.Native.Nat.{ℕ, _≤_, _<_}
+use Prim.Native.Nat.{_≤_, _<_}
 use borrow.Author.Tests.{eqb-true, leb-true, leb-false, le-leb, lt-leb}
 use lib.Dec.{leb, eqb}
 use lib.IntN.{ℤ, pos, natAbs, _+ℤ_, _*ℤ_}
 use Rattle.integers.specs.Integers.{*ℤ-pos-one}
 use Rattle.fraction.specs.Outcome.{Outcome, gives, refuses}
 use Rattle.fraction.specs.Quotient.{_+Q_, _*Q_}
-use Rattle.fraction.specs.Fraction.{limit, IsFraction, isFraction, exact, within, onFractions, productOf, sumOf, after, addProductOf}
+use Rattle.fraction.specs.Fraction.{limit, IsFraction, exact, within, productOf, sumOf, after, addProductOf}
 use Rattle.fraction.specs.Meaning.{and-true, fraction-is, are-both}
 use Rattle.fraction.specs.Laws.{product-is}
 use Rattle.fraction.specs.Parts.{isShaped, over}

@@ -1,7 +1,5 @@
 -- `fraction::add_known` meets its contract: a whole number needs no test of the other operand.
-use mathlib.Core.Path.{_≡_, sym, _∙_, ap, ap₂}
-use mathlib.Core.Bool.{true}
-use lib.IntN.{natAbs}
+use mathlib.Core.Path.{sym, _∙_, ap₂}
 use borrow.Author.Needs.{needs}
 use Rattle.fraction.proofs.add_known.Statement.{statement}
 use Rattle.fraction.proofs.add_known.Tie as tie
@@ -11,7 +9,7 @@ use Rattle.fraction.proofs.plus_whole.Reads as plus-whole-reads
 use Rattle.fraction.proofs.sum.Reads as sum-reads
 use Rattle.integers.proofs.Casts.{back-of}
 use Rattle.fraction.specs.Quotient.{Quotient, _+Q_, lowest}
-use Rattle.fraction.specs.Fraction.{exact, within}
+use Rattle.fraction.specs.Fraction.{within}
 use Rattle.fraction.specs.Meaning.{are-both}
 use Rattle.fraction.specs.Parts.{over}
 use Rattle.fraction.proofs.Ways.{Told, parts-is, over-read, on-fractions}

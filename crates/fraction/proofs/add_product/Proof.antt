@@ -1,5 +1,5 @@
 -- `fraction::add_product` meets its contract: whole numbers, and then any.
-use mathlib.Core.Path.{_≡_, sym, _∙_, ap}
+use mathlib.Core.Path.{sym, _∙_}
 use borrow.Author.Needs.{needs}
 use Rattle.fraction.proofs.add_product.Statement.{statement}
 use Rattle.fraction.proofs.add_product.Tie as tie
@@ -8,7 +8,7 @@ use Rattle.fraction.proofs.add_product_whole.Reads as add-product-whole
 use Rattle.fraction.proofs.is_whole.Reads as is-whole-reads
 use Rattle.integers.proofs.Casts.{back-of}
 use Rattle.fraction.proofs.Ways.{Told}
-use Rattle.fraction.proofs.Whole.{IsWhole, whole-is, wholeSum, whole-add}
+use Rattle.fraction.proofs.Whole.{IsWhole, whole-is, whole-add}
 
 told-sum : (c : tie.Start) → Told (c .args .sum)
 told-sum c = let g = c .good .0 .1 .1 in (g .0 .1, g .1 .0 .1)

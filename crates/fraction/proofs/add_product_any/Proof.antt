@@ -1,12 +1,11 @@
 -- `fraction::add_product_any` meets its contract: the sum with what the product gave, or what it refused.
 use mathlib.Core.Path.{_≡_, sym, _∙_, ap}
 use borrow.Author.Needs.{needs}
-use native.Mathlib.Omega.{arith}
 use Rattle.fraction.proofs.add_product_any.Statement.{statement}
 use Rattle.fraction.proofs.add_product_any.Tie as tie
 use Rattle.fraction.proofs.add_known.Reads as add-known-reads
 use Rattle.fraction.proofs.product.Reads as product-reads
-use Rattle.fraction.specs.Outcome.{Outcome, gives, refuses}
+use Rattle.fraction.specs.Outcome.{Outcome, gives}
 use Rattle.fraction.specs.Fraction.{productOf, sumOf, after, arithmeticSays}
 use Rattle.fraction.specs.Laws.{product-is}
 use Rattle.fraction.specs.declared.Fraction.{Fraction}

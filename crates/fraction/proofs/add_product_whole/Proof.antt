@@ -1,6 +1,6 @@
 -- `fraction::add_product_whole` meets its contract: the product is within the limit or not, and then the sum.
 use mathlib.Core.Path.{_≡_, sym, _∙_, ap, ap₂}
-use Prim.Native.Nat.{ℕ, _≤_}
+use Prim.Native.Nat.{_≤_}
 use lib.IntN.{ℤ, pos, natAbs, _+ℤ_, _*ℤ_}
 use lib.Signed.{ltZ}
 use borrow.Author.Needs.{needs}

@@ -1,5 +1,5 @@
 -- `fraction::gcd` meets its contract: what is odd of a and b goes to `gcd_odd`, and the lesser power of two comes back.
-use mathlib.Core.Path.{_≡_, sym, _∙_, ap, ap₂, subst}
+use mathlib.Core.Path.{sym, _∙_, ap, ap₂}
 use Prim.Native.Nat.{ℕ}
 use native.Mathlib.Omega.{arith}
 use Rattle.fraction.proofs.gcd.Statement.{statement}
@@ -8,7 +8,7 @@ use Rattle.fraction.proofs.gcd_odd.Reads as gcd-odd-reads
 use Rattle.fraction.proofs.odd.Reads as odd-reads
 use Rattle.fraction.proofs.with_twos.Reads as with-twos-reads
 use Rattle.integers.specs.Gcd.{gcd, gcd-zero}
-use Rattle.integers.specs.Binary.{Odd, twos, gcd-zero-left}
+use Rattle.integers.specs.Binary.{twos, gcd-zero-left}
 
 returns : tie.Need-returns
 returns c = sym (ap (λ (n : ℕ). gcd n (c .before .args .b)) (c .if1 .taken) ∙ gcd-zero-left _)

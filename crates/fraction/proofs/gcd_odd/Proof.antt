@@ -1,7 +1,7 @@
 -- `fraction::gcd_odd` meets its contract. Invariant: x and y are odd, and their greatest common divisor is that of a and b;
 -- x + y falls.
 use mathlib.Core.Path.{_≡_, refl, sym, _∙_, ap}
-use Prim.Native.Nat.{ℕ, _+_, _-_, _<_, _^_}
+use Prim.Native.Nat.{_+_, _-_, _<_, _^_}
 use native.Mathlib.Omega.{arith}
 use borrow.Author.Needs.{needs}
 use lib.Count.{trailingZeros}

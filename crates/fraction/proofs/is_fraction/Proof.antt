@@ -1,5 +1,5 @@
 -- `fraction::is_fraction` meets its contract: a pair that is shaped is a fraction if it is in lowest terms.
-use mathlib.Core.Path.{_≡_, sym, _∙_, ap, ap₂}
+use mathlib.Core.Path.{sym, _∙_, ap, ap₂}
 use Prim.Native.Nat.{ℕ}
 use lib.Dec.{eqb}
 use lib.IntN.{natAbs}

@@ -1,9 +1,6 @@
 -- `fraction::is_shaped` meets its contract.
-use mathlib.Core.Path.{_≡_, refl, sym, _∙_, ap}
-use mathlib.Core.Bool.{Bool, true, not}
-use Prim.Native.Nat.{ℕ}
+use mathlib.Core.Path.{_≡_, sym, _∙_, ap}
 use borrow.Author.Tests.{not-true, not-false}
-use lib.Dec.{leb}
 use lib.IntN.{pos, natAbs}
 use lib.Signed.{ltZ}
 use borrow.Author.Needs.{needs}
@@ -11,7 +8,6 @@ use Rattle.fraction.proofs.is_shaped.Statement.{statement}
 use Rattle.fraction.proofs.is_shaped.Tie as tie
 use Rattle.fraction.proofs.magnitude.Reads as magnitude-reads
 use Rattle.integers.proofs.Casts.{at-most-zero, back-of}
-use Rattle.fraction.specs.Fraction.{limit}
 
 magnitude-requires : tie.Need-magnitude-requires
 magnitude-requires c κs = search needs

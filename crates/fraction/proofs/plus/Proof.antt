@@ -1,9 +1,8 @@
 -- `fraction::plus` meets its contract: a whole operand, or two that are not.
 use mathlib.Core.Path.{_≡_, sym, _∙_, ap}
-use mathlib.Core.Bool.{true}
 use Prim.Native.Nat.{ℕ}
 use lib.Dec.{eqb}
-use lib.IntN.{ℤ, natAbs}
+use lib.IntN.{natAbs}
 use borrow.Author.Needs.{needs}
 use Rattle.fraction.proofs.plus.Statement.{statement}
 use Rattle.fraction.proofs.plus.Tie as tie
@@ -13,8 +12,6 @@ use Rattle.fraction.proofs.plus_fractions.Reads as plus-fractions-reads
 use Rattle.fraction.proofs.plus_whole.Reads as plus-whole-reads
 use Rattle.integers.specs.Gcd.{gcd}
 use Rattle.integers.proofs.Casts.{back}
-use Rattle.fraction.specs.Quotient.{Quotient, _+Q_, lowest}
-use Rattle.fraction.specs.Fraction.{within}
 use Rattle.fraction.specs.Parts.{lowestTerms, over}
 use Rattle.fraction.specs.Laws.{+Q-comm}
 use Rattle.fraction.proofs.Ways.{whole-lowest-terms, parts-of, first-fails, second-fails, both-hold}

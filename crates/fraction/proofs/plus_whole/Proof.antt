@@ -1,6 +1,5 @@
 -- `fraction::plus_whole` meets its contract (`Lowest`, `whole-sum`).
 use mathlib.Core.Path.{_≡_, _∙_, ap, ap₂}
-use Prim.Native.Nat.{ℕ}
 use lib.IntN.{ℤ, pos, natAbs, _+ℤ_, _*ℤ_}
 use lib.Dec.{lit≤}
 use lib.Signed.{ltZ}

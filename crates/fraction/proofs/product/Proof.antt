@@ -2,7 +2,6 @@
 use mathlib.Core.Path.{_≡_, sym, _∙_}
 use mathlib.Core.Bool.{true, _&&_}
 use borrow.Author.Needs.{needs}
-use native.Mathlib.Omega.{arith}
 use Rattle.fraction.proofs.product.Statement.{statement}
 use Rattle.fraction.proofs.product.Tie as tie
 use Rattle.fraction.proofs.both_shaped.Reads as both-shaped-reads

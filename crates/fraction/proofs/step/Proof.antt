@@ -1,8 +1,7 @@
 -- `fraction::step` meets its contract, by `stepped-less` and `stepped-greater`.
-use mathlib.Core.Path.{_≡_, refl}
+use mathlib.Core.Path.{refl}
 use Prim.Native.Nat.{_+_, _-_, _<_}
 use native.Mathlib.Omega.{arith}
-use borrow.Author.Needs.{needs}
 use lib.Count.{trailingZeros}
 use Rattle.fraction.proofs.step.Statement.{statement}
 use Rattle.fraction.proofs.step.Tie as tie

@@ -1,11 +1,10 @@
 -- `fraction::with_twos` meets its contract: the lesser power of two comes back.
-use mathlib.Core.Path.{_≡_, sym, _∙_, ap}
+use mathlib.Core.Path.{_∙_, ap}
 use Prim.Native.Nat.{ℕ, _*_, _%_, _<_, _^_}
 use native.Mathlib.Omega.{arith}
 use lib.Count.{trailingZeros}
 use Rattle.fraction.proofs.with_twos.Statement.{statement}
 use Rattle.fraction.proofs.with_twos.Tie as tie
-use Rattle.integers.specs.Gcd.{gcd}
 use Rattle.integers.specs.Binary.{Twos, twos, gcd-comm, gcd-shifted}
 
 fits-x : (s : tie.Start) → s .args .p .x < 2 ^ 64
