@@ -66,6 +66,17 @@ module _ (f : Fraction) (t : Told f) where
       let p = and-true (ltZ (pos 0) (f .den)) (leb (natAbs (f .num)) limit) e in
       record { positive = positive (f .den) (p .0); num-within = leb-true (natAbs (f .num)) limit (p .1); den-within = den-small (p .0) }
 
+and-exchange : (x u y v : Bool) → (x && u) && (y && v) ≡ (x && y) && (u && v)
+and-exchange true u true v = refl
+and-exchange true true false v = refl
+and-exchange true false false v = refl
+and-exchange false u y v = refl
+
+-- two pairs are fractions if they are shaped and in lowest terms
+pub both-by-shape : (a b : Fraction) → Told a → Told b
+    → isFraction a && isFraction b ≡ (isShaped a && isShaped b) && (lowestTerms (a .num) (natAbs (a .den)) && lowestTerms (b .num) (natAbs (b .den)))
+both-by-shape a b s t = ap₂ (λ (x y : Bool). x && y) (by-shape a s) (by-shape b t) ∙ and-exchange (isShaped a) _ (isShaped b) _
+
 pub parts-of : (n : ℤ) (d : ℕ) → Shaped n d → lowestTerms n d ≡ true → Parts n d
 parts-of n d h e = record { positive = h .positive; num-within = h .num-within; den-within = h .den-within; lowest-terms = eqb-true (gcd (natAbs n) d) 1 e }
 
@@ -91,9 +102,13 @@ module _ {A : Type 0} (o : Outcome A) where
   unfolding onFractions
   not-fractions t e = rw e
 
-and-false : (a : Bool) → a && false ≡ false
+pub and-false : (a : Bool) → a && false ≡ false
 and-false true = refl
 and-false false = refl
+
+pub and-true-right : (a : Bool) → a && true ≡ a
+and-true-right true = refl
+and-true-right false = refl
 
 module _ {A : Type 0} (o : Outcome A) where
   -- two tests

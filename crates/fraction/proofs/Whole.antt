@@ -5,16 +5,17 @@ use mathlib.Core.Bool.{Bool, true, false, _&&_}
 use Prim.Native.Nat.{_≤_, _<_}
 use borrow.Author.Tests.{eqb-true, leb-true, leb-false, le-leb, lt-leb}
 use lib.Dec.{leb, eqb}
-use lib.IntN.{ℤ, pos, natAbs, _+ℤ_, _*ℤ_}
+use lib.IntN.{ℤ, pos, negsuc, natAbs, _+ℤ_, _*ℤ_}
+use lib.Signed.{_<ℤ_}
 use Rattle.integers.specs.Integers.{*ℤ-pos-one}
 use Rattle.fraction.specs.Outcome.{Outcome, gives, refuses}
 use Rattle.fraction.specs.Quotient.{_+Q_, _*Q_}
-use Rattle.fraction.specs.Fraction.{limit, IsFraction, exact, within, productOf, sumOf, after, addProductOf}
+use Rattle.fraction.specs.Fraction.{limit, IsFraction, isFraction, exact, within, productOf, sumOf, after, addProductOf}
 use Rattle.fraction.specs.Meaning.{and-true, fraction-is, are-both}
-use Rattle.fraction.specs.Laws.{product-is}
+use Rattle.fraction.specs.Laws.{zeroF, sum-zero, product-zero, product-is}
 use Rattle.fraction.specs.Parts.{isShaped, over}
 use Rattle.fraction.specs.declared.Fraction.{Fraction}
-use Rattle.fraction.proofs.Ways.{Told, by-shape, whole-lowest-terms, on-fractions}
+use Rattle.fraction.proofs.Ways.{Told, by-shape, whole-lowest-terms, on-fractions, first-fails}
 use Rattle.fraction.proofs.Lowest.{whole-lowest}
 
 -- what `is_whole` finds
@@ -69,3 +70,25 @@ whole-add s a b u v w = go (leb (natAbs (a .num *ℤ b .num)) limit) refl
         let g : within (over z 1) ≡ refuses 12 = whole-wide z (leb-false (natAbs z) limit e) in
         ap (λ (o : Outcome Fraction). after o (λ p. within (over (s .num +ℤ p .num) 1))) g
         ∙ sym (ap (λ (o : Outcome Fraction). after o (sumOf s)) (whole-productOf a b v w ∙ g))
+
+-- ---- a product with 0, added
+
+one-den : (z : ℤ) → pos 0 <ℤ z → natAbs z ≡ 1 → z ≡ pos 1
+one-den (pos n) h e = ap pos e
+one-den (negsuc n) h e = absurd (h .lt)
+
+pub zero-whole : (f : Fraction) → IsWhole f → f .num ≡ pos 0 → f ≡ zeroF
+zero-whole f v e = λ i. record { num = e i; den = one-den (f .den) (v .is .positive) (v .one) i }
+
+module _ (s a : Fraction) where
+  pub zero-added : isFraction a && isFraction s ≡ true → addProductOf s a zeroF ≡ gives s
+  zero-added e =
+      let p = and-true (isFraction a) (isFraction s) e in
+      ap (λ (o : Outcome Fraction). after o (sumOf s)) (product-zero a (fraction-is a (p .0))) ∙ sum-zero s (fraction-is s (p .1))
+
+  pub zero-refused : isFraction a && isFraction s ≡ false → addProductOf s a zeroF ≡ refuses 4
+  zero-refused e = go (isFraction a) refl e
+    where
+      go : (t : Bool) → isFraction a ≡ t → t && isFraction s ≡ false → addProductOf s a zeroF ≡ refuses 4
+      go true f h = ap (λ (o : Outcome Fraction). after o (sumOf s)) (product-zero a (fraction-is a f)) ∙ first-fails _ (isFraction s) _ h
+      go false f h = ap (λ (o : Outcome Fraction). after o (sumOf s)) (first-fails _ (isFraction a) _ f)

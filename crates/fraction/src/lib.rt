@@ -11,6 +11,7 @@ ghost use Rattle.integers.specs.Binary.{Odd, oddOf, Narrow, Paired, Stepped, Go
 ghost use Rattle.integers.specs.Signs.{withSign};
 ghost use Rattle.fraction.specs.Quotient.{_+Q_, _*Q_, lowest, floorZ, ceilingZ};
 ghost use Rattle.fraction.specs.Fraction.{limit, IsFraction, isFraction, onFractions, within as withinOf, reducedOf, productOf, sumOf, after, addProductOf, compareOf, order, floorOf, ceilingOf, arithmeticSays, comparisonSays, roundingSays};
+ghost use Rattle.fraction.specs.Laws.{zeroF};
 ghost use Rattle.fraction.specs.Outcome.{gives};
 ghost use Rattle.fraction.specs.Parts.{Parts, Shaped, Worked, isShaped, lowestTerms, over};
 
@@ -246,11 +247,44 @@ fn is_fraction(f: Fraction) -> bool
     }
 }
 
+fn both_shaped(a: Fraction, b: Fraction) -> bool
+    ensures { λ r. ⌜ r ≡ isShaped a && isShaped b ⌝ }
+{
+    if is_shaped(a) { is_shaped(b) } else { false }
+}
+
+// Whether p / d and q / e have no common divisors. Where neither is whole, one loop tells it of both.
+fn both_lowest(p: u32, d: u32, q: u32, e: u32) -> bool
+    requires { ⌜ (0 < d) × (0 < e) ⌝ }
+    ensures { λ r. ⌜ r ≡ eqb (gcdOf p d) 1 && eqb (gcdOf q e) 1 ⌝ }
+{
+    if d == 1 {
+        return lowest_terms(q, e);
+    }
+    if e == 1 {
+        return lowest_terms(p, d);
+    }
+    if p == 0 {
+        return false;
+    }
+    if q == 0 {
+        return false;
+    }
+    let v = gcds(paired(p, d), paired(q, e), Pair { x: 1, y: 1 });
+    if v.a == 1 { v.b == 1 } else { false }
+}
+
+// Whether both are fractions in lowest terms within the limit.
 fn both(a: Fraction, b: Fraction) -> bool
     ensures { λ r. ⌜ r ≡ isFraction a && isFraction b ⌝ }
 {
-    if is_fraction(a) {
-        is_fraction(b)
+    if both_shaped(a, b) {
+        both_lowest(
+            magnitude(a.num),
+            magnitude(a.den),
+            magnitude(b.num),
+            magnitude(b.den),
+        )
     } else {
         false
     }
@@ -281,16 +315,6 @@ pub fn reduced(negative: bool, n: u64, d: u64) -> Arithmetic
     }
     let g = gcd(n, d);
     within(negative, n / g, d / g)
-}
-
-fn both_lowest(p: u32, d: u32, q: u32, e: u32) -> bool
-    ensures { λ r. ⌜ r ≡ eqb (gcdOf p d) 1 && eqb (gcdOf q e) 1 ⌝ }
-{
-    if lowest_terms(p, d) {
-        lowest_terms(q, e)
-    } else {
-        false
-    }
 }
 
 // The quotient c, negated if asked, brought to lowest terms, if the quotients a and b are in lowest terms.
@@ -395,12 +419,6 @@ fn plus(n: i32, d: u32, m: i32, e: u32) -> Arithmetic
     plus_fractions(n, d, m, e)
 }
 
-fn both_shaped(a: Fraction, b: Fraction) -> bool
-    ensures { λ r. ⌜ r ≡ isShaped a && isShaped b ⌝ }
-{
-    if is_shaped(a) { is_shaped(b) } else { false }
-}
-
 pub fn product(a: Fraction, b: Fraction) -> Arithmetic
     ensures { λ r. ⌜ arithmeticSays r ≡ productOf a b ⌝ }
 {
@@ -470,6 +488,18 @@ fn add_known(s: Fraction, p: Fraction) -> Arithmetic
     }
 }
 
+// s + a * 0.
+fn add_zero(s: Fraction, a: Fraction) -> Arithmetic
+    ensures { λ r. ⌜ arithmeticSays r ≡ addProductOf s a zeroF ⌝ }
+{
+    if both(a, s) {
+        Arithmetic::Value(s)
+    } else {
+        Arithmetic::NotAFraction
+    }
+}
+
+// s + a * b, of any fractions.
 fn add_product_any(s: Fraction, a: Fraction, b: Fraction) -> Arithmetic
     ensures { λ r. ⌜ arithmeticSays r ≡ addProductOf s a b ⌝ }
 {
@@ -485,8 +515,11 @@ fn add_product_any(s: Fraction, a: Fraction, b: Fraction) -> Arithmetic
 pub fn add_product(sum: Fraction, a: Fraction, b: Fraction) -> Arithmetic
     ensures { λ r. ⌜ arithmeticSays r ≡ addProductOf sum a b ⌝ }
 {
-    if is_whole(a) {
-        if is_whole(b) {
+    if is_whole(b) {
+        if b.num == 0 {
+            return add_zero(sum, a);
+        }
+        if is_whole(a) {
             if is_whole(sum) {
                 return add_product_whole(sum.num, a.num, b.num);
             }
