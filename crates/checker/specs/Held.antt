@@ -63,10 +63,11 @@ pub record RowStands (tree : Tree) (index : List ℕ) (values : List ℤ) (rows 
 abbrev pub RowIsThere : List ℕ → List ℤ → List ℕ → Pairs → ℕ → Type 0
 RowIsThere index values rows objective r = (tree : Tree) × ((row : Row) × RowStands tree index values rows objective r row)
 
--- the same of the index table and the row table alone
+-- the same, said of the index table and the row table alone
 abbrev pub RowFound : Tree → List ℕ → List ℕ → ℕ → Row → Type 0
 RowFound tree index rows r row = (values : List ℤ) × ((objective : Pairs) × RowStands tree index values rows objective r row)
 
+-- it is some row
 abbrev pub RowIsFound : List ℕ → List ℕ → ℕ → Type 0
 RowIsFound index rows r = (tree : Tree) × ((row : Row) × RowFound tree index rows r row)
 
@@ -230,10 +231,11 @@ Standing f index values rows = (tree : Tree) × Stands tree f index values rows
 abbrev pub Found : Frame → List ℕ → List ℕ → Type 0
 Found f index rows = (values : List ℤ) × Standing f index values rows
 
--- the row table is that of this tree, of some tree, whose frame this is
+-- the row table is that of this tree, whose frame this is
 abbrev pub RowsOf : Tree → Frame → List ℕ → Type 0
 RowsOf tree f rows = (index : List ℕ) × ((values : List ℤ) × Stands tree f index values rows)
 
+-- it is that of some tree
 abbrev pub RowsOfOne : Frame → List ℕ → Type 0
 RowsOfOne f rows = (tree : Tree) × RowsOf tree f rows
 

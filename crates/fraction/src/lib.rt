@@ -72,6 +72,7 @@ struct Pair {
     y: u64,
 }
 
+// Numbers of 32 bits as such a pair.
 fn paired(a: u32, b: u32) -> Pair
     ensures { λ r. ⌜ (r .x ≡ a) × (r .y ≡ b) ⌝ }
 {
@@ -104,6 +105,7 @@ fn with_twos(p: Pair, g: u64) -> u64
     if i < j { g << i } else { g << j }
 }
 
+// The greatest common divisor of any two numbers.
 fn gcd(a: u64, b: u64) -> u64
     ensures { λ r. ⌜ r ≡ gcdOf a b ⌝ }
 {
@@ -151,6 +153,7 @@ fn reached(a: Pair, p: Pair) -> u64
     }
 }
 
+// What `gcds` finds, for each of three pairs.
 struct Divisors {
     a: u64,
     b: u64,
@@ -247,6 +250,7 @@ fn is_fraction(f: Fraction) -> bool
     }
 }
 
+// Whether two pairs are fractions if they are in lowest terms.
 fn both_shaped(a: Fraction, b: Fraction) -> bool
     ensures { λ r. ⌜ r ≡ isShaped a && isShaped b ⌝ }
 {
@@ -439,6 +443,7 @@ pub fn sum(a: Fraction, b: Fraction) -> Arithmetic
     }
 }
 
+// Whether a pair is a whole number within the limit.
 fn is_whole(f: Fraction) -> bool
     ensures { λ r. ⌜ r ≡ isShaped f && eqb (natAbs (f .den)) 1 ⌝ }
 {
@@ -449,6 +454,7 @@ fn is_whole(f: Fraction) -> bool
     }
 }
 
+// n * m.
 fn multiplied(n: i32, m: i32) -> i64
     requires { ⌜ (natAbs n ≤ limit) × (natAbs m ≤ limit) ⌝ }
     ensures { λ r. ⌜ (r ≡ n *ℤ m) × (natAbs r < 9223372036854775808) ⌝ }
@@ -456,6 +462,7 @@ fn multiplied(n: i32, m: i32) -> i64
     (n as i64) * (m as i64)
 }
 
+// s + w.
 fn added(s: i32, w: i64) -> i64
     requires { ⌜ (natAbs s ≤ limit) × (natAbs w ≤ limit) ⌝ }
     ensures { λ r. ⌜ (r ≡ s +ℤ w) × (natAbs r < 9223372036854775808) ⌝ }
