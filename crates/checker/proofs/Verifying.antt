@@ -30,15 +30,13 @@ use Rattle.reader.specs.declared.Reading.{Reading}
 use Rattle.reader.specs.declared.Reading.the-variants as read
 use Rattle.checker.specs.Held.{Held, CertificateIsThere}
 use Rattle.checker.specs.Answers.{verdictSays}
+use Rattle.checker.specs.Means.{not-verified, checked-fine, verified-means}
 use Rattle.checker.specs.Promise.{verifies, refuses, verificationSays, checkedSays, answerOf, CertificateVerified}
 use Rattle.checker.specs.declared.Verdict.{Verdict}
 use Rattle.checker.specs.declared.Verification.{Verification}
 use Rattle.checker.specs.declared.Verification.the-variants.{Verified, Refused}
 
 -- ---- answers
-
-not-verified : {X : Type 0} {n l : ℕ} → refuses n l ≡ verifies → X
-not-verified e = absurd (let z : _≡_ {A = ℕ} 0 1 = cc in omega arith)
 
 not-taken : {X : Type 0} {n l : ℕ} {p : Places} → reading.takes p ≡ reading.refuses n l → X
 not-taken e = absurd (let z : _≡_ {A = ℕ} 0 1 = cc in omega arith)
@@ -119,10 +117,6 @@ module _ (text : Bytes) (index : List ℕ) (values : List ℤ) (rows : List ℕ)
 
 -- ---- verified exactly if what is spelled meets the rules
 
-checked-fine : (text : Bytes) (v : rules.Verdict) → verifies ≡ checkedSays text v → v ≡ rules.fine
-checked-fine text (rules.done tt) e = refl
-checked-fine text (rules.refused reason place) e = not-verified (sym e)
-
 answered : (r : Verification) → verificationSays r ≡ verifies → r ≡ Verified
 answered Verified e = refl
 answered (Refused reason line) e = not-verified e
@@ -130,7 +124,7 @@ answered (Refused reason line) e = not-verified e
 pub exactly : (text : Bytes) (index : List ℕ) (values : List ℤ) (rows : List ℕ) (r : Verification)
     → verificationSays r ≡ answerOf text (courseOf text (length index) (length values) (length rows))
     → Begun text index values rows → (r ≡ Verified) ↔ ((tree : Tree) × SpellsTree text tree × Meets tree)
-exactly text index values rows r e b = (λ v. to (readOf text) refl (sym (ap verificationSays v) ∙ answer), λ h. answered r (answer ∙ from (h .0) (h .1) (h .2)))
+exactly text index values rows r e b = (λ v. to (readOf text) refl (sym answer ∙ ap verificationSays v), λ h. answered r (answer ∙ from (h .0) (h .1) (h .2)))
   where
     answer : verificationSays r ≡ answerOf text (begun (readOf text))
     answer =
@@ -140,32 +134,36 @@ exactly text index values rows r e b = (λ v. to (readOf text) refl (sym (ap ver
         (true-and (leb valueCells (length values)) (leb rowCells (length rows)) (le-leb _ _ (b .value-cells)) (le-leb _ _ (b .row-cells))))
         (le-leb _ _ (b .short)))
 
-    to : (read : ReadText) → readOf text ≡ read → verifies ≡ answerOf text (begun read) → (tree : Tree) × SpellsTree text tree × Meets tree
+    to : (read : ReadText) → readOf text ≡ read → answerOf text (begun read) ≡ verifies → (tree : Tree) × SpellsTree text tree × Meets tree
     to (taken tree) q v = (tree, read-sound text tree q, check-says tree .0 (checked-fine text (checkOf tree) v))
-    to (refused reason place) q v = not-verified (sym v)
+    to (refused reason place) q v = not-verified v
 
     from : (tree : Tree) → SpellsTree text tree → Meets tree → answerOf text (begun (readOf text)) ≡ verifies
     from tree s m = ap (λ (x : ReadText). answerOf text (begun x)) (read-complete text tree s) ∙ ap (checkedSays text) (check-says tree .1 m)
 
 -- ---- the promise, from reading's
 
-module _ {text : Bytes} {index : List ℕ} {values : List ℤ} {rows : List ℕ} {index′ : List ℕ} {values′ : List ℤ} {rows′ : List ℕ} where
-  -- reading refused
-  pub refused-verified : (reason : Refusal) (line : ℕ) {r : Reading} → CertificateRead text index values rows index′ values′ rows′ r → r ≡ read.Refused reason line
-      → CertificateVerified text index values rows index′ values′ rows′ (Refused reason line)
-  refused-verified reason line h e =
+module _ {text : Bytes} {index : List ℕ} {values : List ℤ} {rows : List ℕ} {index′ : List ℕ} {values′ : List ℤ} {rows′ : List ℕ} {r : Reading}
+    (h : CertificateRead text index values rows index′ values′ rows′ r) where
+  -- the answer is the one of 01; reading left the tables
+  promised : (a : Verification) → verificationSays a ≡ answerOf text (courseOf text (length index) (length values) (length rows)) → CertificateVerified text index values rows index′ values′ rows′ a
+  promised a answer =
       let q = h .equations in
-      let answer = refused-reading text (courseOf text (length index) (length values) (length rows)) (sym (ap reading.readingSays e) ∙ q .answer) in
       record {
         answer = answer;
         index-table = q .index-table;
         value-table = q .value-table;
         row-table = q .row-table;
-        verified-exactly = exactly text index values rows (Refused reason line) answer;
+        verified-exactly = exactly text index values rows a answer;
+        verified-means = λ v. verified-means text (length index) (length values) (length rows) (sym answer ∙ ap verificationSays v);
       }
 
-  module _ (li : length index′ ≡ length index) (lv : length values′ ≡ length values) (lr : length rows′ ≡ length rows) (places : Places) {r : Reading}
-      (h : CertificateRead text index values rows index′ values′ rows′ r) (e : r ≡ read.Taken places) where
+  -- reading refused
+  pub refused-verified : (reason : Refusal) (line : ℕ) → r ≡ read.Refused reason line → CertificateVerified text index values rows index′ values′ rows′ (Refused reason line)
+  refused-verified reason line e =
+      promised (Refused reason line) (refused-reading text (courseOf text (length index) (length values) (length rows)) (sym (ap reading.readingSays e) ∙ h .equations .answer))
+
+  module _ (li : length index′ ≡ length index) (lv : length values′ ≡ length values) (lr : length rows′ ≡ length rows) (places : Places) (e : r ≡ read.Taken places) where
     the-tree : TakenHeld text index values rows index′ values′ rows′ places
     the-tree =
         let q = h .equations in
@@ -180,14 +178,6 @@ module _ {text : Bytes} {index : List ℕ} {values : List ℤ} {rows : List ℕ}
         → v ≡ w → verificationSays a ≡ checkedSays text (verdictSays w)
         → CertificateVerified text index values rows index′ values′ rows′ a
     checked-verified a check is says =
-        let q = h .equations in
         let t = the-tree in
-        let answer : verificationSays a ≡ answerOf text (courseOf text (length index) (length values) (length rows)) =
-        says ∙ ap (λ (x : Verdict). checkedSays text (verdictSays x)) (sym is) ∙ ap (checkedSays text) (check (t .tree) (t .held) (t .places-are)) ∙ sym (ap (answerOf text) (t .course-is)) in
-        record {
-          answer = answer;
-          index-table = q .index-table;
-          value-table = q .value-table;
-          row-table = q .row-table;
-          verified-exactly = exactly text index values rows a answer;
-        }
+        promised a
+        (says ∙ ap (λ (x : Verdict). checkedSays text (verdictSays x)) (sym is) ∙ ap (checkedSays text) (check (t .tree) (t .held) (t .places-are)) ∙ sym (ap (answerOf text) (t .course-is)))

@@ -16,6 +16,7 @@ use Rattle.grammar.specs.Refusals.{refusalNumber}
 use Rattle.rules.specs.Result as rules
 use Rattle.rules.specs.Check.{checkOf}
 use Rattle.rules.specs.Meets.{Meets}
+use Rattle.rules.specs.Sentence.Points.{SentenceOf}
 use Rattle.reader.specs.Promise.{Course, not-begun, begun, courseOf, tableOf, Begun}
 use Rattle.checker.specs.declared.Verification.{Verification}
 use Rattle.checker.specs.declared.Verification.the-variants.{Verified, Refused}
@@ -54,3 +55,6 @@ pub record CertificateVerified (text : Bytes) (index : List ℕ) (values : List 
   pub row-table : rows′ ≡ tableOf 0 rowTable rows (courseOf text (length index) (length values) (length rows))
   -- "It says verified exactly when the certificate meets the rules"
   pub verified-exactly : Begun text index values rows → (r ≡ Verified) ↔ ((tree : Tree) × SpellsTree text tree × Meets tree)
+  -- the sentence about points (document 02, request 11), of this very text: its solutions are feasible, and "no feasible point
+  -- lies beyond a verified bound"
+  pub verified-means : r ≡ Verified → SentenceOf text

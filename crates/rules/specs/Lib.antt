@@ -26,3 +26,4 @@ pub mod SplitsLaws
 pub mod AssumptionsLaws
 pub mod ClaimsLaws
 pub mod Agreement
+pub mod Sentence

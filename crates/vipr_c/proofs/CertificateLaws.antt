@@ -125,4 +125,5 @@ module _ {text : Bytes} {index : List ℕ} {values : List ℤ} {rows : List ℕ}
         answer = p ∙ verify-answer;
         tables = record { index-table = h .index-table; value-table = h .value-table; row-table = h .row-table };
         verified-exactly = returned-exactly text index values rows verifyReplied (verifyCourse text) (λ n. refl) r verify-answer p (verified-zero r) (h .verified-exactly);
+        verified-means = λ z. h .verified-means (verified-zero r .0 (sym (ap (λ (x : Reply). x .status) p) ∙ z));
       }

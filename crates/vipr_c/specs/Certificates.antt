@@ -12,6 +12,7 @@ use Rattle.grammar.specs.Tree.{Tree}
 use Rattle.grammar.specs.Tables.{indexTable, valueTable, rowTable}
 use Rattle.grammar.specs.Texts.{SpellsTree, Certificate, SpellsCertificate}
 use Rattle.rules.specs.Meets.{Meets}
+use Rattle.rules.specs.Sentence.Points.{SentenceOf}
 use Rattle.reader.specs.Promise as reading
 use Rattle.reader.specs.Promise.{courseOf, tableOf, Begun, Holds}
 use Rattle.checker.specs.Promise as checking
@@ -64,3 +65,5 @@ pub record VerificationReturned (text : Bytes) (index : List ℕ) (values : List
   -- 0 exactly where the tables have the cells needed, the text has at most 32,768 bytes, and it spells a certificate that
   -- "meets the rules"
   pub verified-exactly : (returned ≡ 0) ↔ (Begun text index values rows × ((tree : Tree) × SpellsTree text tree × Meets tree))
+  -- the sentence about points, of this very text: "no feasible point lies beyond a verified bound"
+  pub verified-means : returned ≡ 0 → SentenceOf text

@@ -4,11 +4,15 @@
 use Prim.Native.Nat.{ℕ, zero, suc, _+_, _/_, _%_, _≤_}
 use mathlib.Core.Bool.{cond}
 use mathlib.Core.List.{[], _∷_, _++_, map}
-use mathlib.Core.Path.{_≡_, refl}
+use mathlib.Core.Path.{_≡_, refl, ap}
+use native.Mathlib.Omega.{arith}
 use lib.Dec.{ltb}
+use lib.ListN.{getD}
 use Rattle.text.specs.Bytes.{Bytes}
 use Rattle.text.specs.Ascii.{ascii}
+use Rattle.rules.specs.Sentence.Points.{SentenceOf}
 use Rattle.checker.specs.Promise.{Answer, verifies, refuses, answerOf}
+use Rattle.checker.specs.Means.{verified-means}
 use Rattle.grammar.specs.Tables.{indexCells, valueCells, rowCells}
 use Rattle.reader.specs.Promise.{courseOf}
 use Rattle.vipr_check.specs.declared.Input.{Input}
@@ -35,6 +39,15 @@ printed text = lineFor (answerOf text (courseOf text indexCells valueCells rowCe
 pub worked : map lineFor (verifies ∷ refuses 15 14 ∷ refuses 2 0 ∷ []) ≡ ascii "verified\n" ∷ ascii "refused 15 14\n" ∷ ascii "refused 2 0\n" ∷ []
 unfolding lineFor decimalBy
 worked = refl
+
+-- where the line for a text is `verified`, the sentence about points holds of the text
+says-verified : (a : Answer) → lineFor a ≡ ascii "verified\n" → a ≡ verifies
+unfolding lineFor
+says-verified verifies e = refl
+says-verified (refuses reason line) e = absurd (let z : _≡_ {A = ℕ} 114 118 = ap (λ (b : Bytes). getD b 0 0) e in omega arith)
+
+pub printed-means : (text : Bytes) → printed text ≡ ascii "verified\n" → SentenceOf text
+printed-means text e = verified-means text indexCells valueCells rowCells (says-verified (answerOf text (courseOf text indexCells valueCells rowCells)) e)
 
 -- what came has room
 abbrev pub Fits : ℕ → Input → Type 0

@@ -19,7 +19,7 @@ enum-known-places c = search needs
 check-requires : tie.Need-check-requires
 check-requires c κs =
     let w = c .before .before .before .before .before .before .before .before .before .before .before .read-certificate in
-    certificate-there (w .kept .1 .0) (w .kept .1 .1 .0) (w .kept .1 .1 .1 .0) _ (w .ensures) (c .before .before .before .before .places .given .1)
+    certificate-there (w .ensures) (w .kept .1 .0) (w .kept .1 .1 .0) (w .kept .1 .1 .1 .0) _ (c .before .before .before .before .places .given .1)
 
 enum-told : tie.Need-enum-told
 enum-told c = search needs
@@ -40,7 +40,7 @@ same-length-3 : tie.Need-same-length-3
 same-length-3 c = search needs
 
 returns : tie.Need-returns
-returns c = refused-verified _ _ (c .before .before .before .before .before .before .before .before .read-certificate .ensures) (c .before .reason .given .1)
+returns c = refused-verified (c .before .before .before .before .before .before .before .before .read-certificate .ensures) _ _ (c .before .reason .given .1)
 
 same-length-4 : tie.Need-same-length-4
 same-length-4 c = search needs
@@ -54,7 +54,7 @@ same-length-6 c = search needs
 returns-2 : tie.Need-returns-2
 returns-2 c =
     let w = c .before .before .before .before .before .before .before .before .before .before .before .before .before .before .read-certificate in
-    checked-verified (w .kept .1 .0) (w .kept .1 .1 .0) (w .kept .1 .1 .1 .0) _ (w .ensures) (c .before .before .before .before .before .before .before .places .given .1)
+    checked-verified (w .ensures) (w .kept .1 .0) (w .kept .1 .1 .0) (w .kept .1 .1 .1 .0) _ (c .before .before .before .before .before .before .before .places .given .1)
     _ (c .before .before .check .ensures) (c .enum-told .given .1) refl
 
 same-length-7 : tie.Need-same-length-7
@@ -69,7 +69,7 @@ same-length-9 c = search needs
 returns-3 : tie.Need-returns-3
 returns-3 c =
     let w = c .before .before .before .before .before .before .before .before .before .before .before .before .before .before .before .before .read-certificate in
-    checked-verified (w .kept .1 .0) (w .kept .1 .1 .0) (w .kept .1 .1 .1 .0) _ (w .ensures) (c .before .before .before .before .before .before .before .before .before .places .given .1)
+    checked-verified (w .ensures) (w .kept .1 .0) (w .kept .1 .1 .0) (w .kept .1 .1 .1 .0) _ (c .before .before .before .before .before .before .before .before .before .places .given .1)
     _ (c .before .before .before .before .check .ensures) (c .before .before .reason2 .given .1) (ap (refuses (refusalNumber (c .before .before .reason2 .given .0 .0))) (c .line-of .ensures))
 
 pub verify-spec : {M : Type 1} → statement M

@@ -17,11 +17,11 @@ use Rattle.value.specs.Agreement.{value-read}
 use Rattle.grammar.specs.Tree.{Integers, Objective, Constraints, Solutions, Derivations, Term, Side, obj, listed, Row, End, infinite, finite, Claim, infeas, range, Solution, Multiplier, MultiplierList, Reason, asm, lin, rnd, uns, sol, Derivation, Tree}
 use Rattle.grammar.specs.Spelling.{isAmong, ItemsSpelled, Spells}
 use Rattle.grammar.specs.Certificate.{Pair, newIndexBelow, pair, ofTerm, ofMultiplier, multiplierList, side, row, rowNames, reason, assumptions, derivation, solution, endOr, claim, integers, objectiveSection, constraints, solutionSection, derivationSection, certificate}
 use Rattle.rules.specs.Tests.{All, not-true}
 use Rattle.rules.specs.Result.{AllFrom}
 use Rattle.rules.specs.Rows.{variables, objective, sideTerms}
 use Rattle.rules.specs.Derivations.{named}
-use Rattle.sentence.specs.Formed.{Formed, RowFormed, DerivationFormed, EndFormed, ClaimFormed, WellFormed}
+use Rattle.rules.specs.Sentence.Formed.{Formed, RowFormed, DerivationFormed, EndFormed, ClaimFormed, WellFormed}
 
 -- a value that is spelled is a fraction
 fraction-spelled : (f : Fraction) (token : Bytes) → SpellsValue f token → IsFraction f

@@ -16,22 +16,22 @@ use Rattle.fraction.specs.Fraction.{IsFraction, exact}
 use Rattle.fraction.specs.Laws.{zeroF, zero-is}
 use Rattle.fraction.specs.declared.Fraction.{Fraction}
 use Rattle.grammar.specs.Tree.{Sense, equal, atMost, atLeast, Row, Multiplier, Tree}
 use Rattle.rules.specs.Tests.{All, EveryBelow}
 use Rattle.rules.specs.Result.{Through}
 use Rattle.rules.specs.Values.{wholeF, Whole, zeroQ, isZero}
 use Rattle.rules.specs.ValuesLaws.{decides-zero}
 use Rattle.rules.specs.Rows.{variables, termsOf, Constraint, constraintOf, rowAt}
 use Rattle.rules.specs.Domination.{FailsAtZero, Absurd, SameCoefficients, Tighter, Dominates}
 use Rattle.rules.specs.Combinations.{signOf, signed, HasSense, Combination, emptyCombination, Next, Denotes}
 use Rattle.rules.specs.Rounding.{IsInteger, Integral, RoundsTo, Rounded}
 use Rattle.rules.specs.Splits.{Adjacent, Split}
 use Rattle.rules.specs.SolutionsLaws.{all-in}
 use Rattle.rules.specs.Tests.{failed}
-use Rattle.sentence.specs.Points.{Point, coordinate, Compares, HoldsAt}
-use Rattle.sentence.specs.Formed.{RowFormed}
-use Rattle.sentence.specs.Senses.{Rel, rel-same, rel-eq, rel-add, rel-times, rel-cancel}
-use Rattle.sentence.specs.Scale.{scales-product, scales-whole, compares-scaled, common, common-positive, scaled, Fair, fair, fair-whole, scaled-whole, scaled-zero, fractions-compare, at-most-scaled, same-scaled, sum-scaled, product-scaled}
-use Rattle.sentence.specs.Lines.{weight, line, terms-compare, line-same, line-zero, line-terms, line-multiple}
+use Rattle.rules.specs.Sentence.Points.{Point, coordinate, Compares, HoldsAt}
+use Rattle.rules.specs.Sentence.Formed.{RowFormed}
+use Rattle.rules.specs.Sentence.Senses.{Rel, rel-same, rel-eq, rel-add, rel-times, rel-cancel}
+use Rattle.rules.specs.Sentence.Scale.{scales-product, scales-whole, compares-scaled, common, common-positive, scaled, Fair, fair, fair-whole, scaled-whole, scaled-zero, fractions-compare, at-most-scaled, same-scaled, sum-scaled, product-scaled}
+use Rattle.rules.specs.Sentence.Lines.{weight, line, terms-compare, line-same, line-zero, line-terms, line-multiple}
 
 -- ---- a factor of either sign
 

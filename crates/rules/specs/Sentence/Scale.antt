@@ -19,9 +19,9 @@ use Rattle.fraction.specs.Meaning.{exact-positive}
 use Rattle.fraction.specs.Laws.{zeroF}
 use Rattle.fraction.specs.declared.Fraction.{Fraction}
 use Rattle.grammar.specs.Tree.{Sense, equal, atMost, atLeast}
 use Rattle.rules.specs.Values.{wholeF, AtMost, Same, IsProduct, IsSum}
-use Rattle.sentence.specs.Points.{Compares}
-use Rattle.sentence.specs.Senses.{Rel, rel-same, rel-times, rel-cancel}
+use Rattle.rules.specs.Sentence.Points.{Compares}
+use Rattle.rules.specs.Sentence.Senses.{Rel, rel-same, rel-times, rel-cancel}
 
 -- ---- rational numbers times a whole number
 

@@ -17,14 +17,14 @@ use Rattle.fraction.specs.Fraction.{IsFraction, exact}
 use Rattle.fraction.specs.Laws.{zeroF, zero-is}
 use Rattle.fraction.specs.declared.Fraction.{Fraction}
 use Rattle.grammar.specs.Tree.{Term, Sense}
 use Rattle.rules.specs.Tests.{All, EveryBelow}
 use Rattle.rules.specs.Result.{Through}
 use Rattle.rules.specs.Rows.{valueIn}
 use Rattle.rules.specs.Combinations.{withCoefficient, AddsMultiple}
-use Rattle.sentence.specs.Points.{Point, coordinate, valueAt, Compares}
-use Rattle.sentence.specs.Formed.{Formed}
-use Rattle.sentence.specs.Senses.{Rel}
-use Rattle.sentence.specs.Scale.{Scales, scales-sum, scales-product, scales-times, scales-whole, compares-scaled, common, common-positive, scaled, Fair, fair, scaled-zero, sum-scaled, product-scaled}
+use Rattle.rules.specs.Sentence.Points.{Point, coordinate, valueAt, Compares}
+use Rattle.rules.specs.Sentence.Formed.{Formed}
+use Rattle.rules.specs.Sentence.Senses.{Rel}
+use Rattle.rules.specs.Sentence.Scale.{Scales, scales-sum, scales-product, scales-times, scales-whole, compares-scaled, common, common-positive, scaled, Fair, fair, scaled-zero, sum-scaled, product-scaled}
 
 -- ---- values in a term list
 

@@ -14,21 +14,21 @@ use Rattle.fraction.specs.QuotientLaws.{≈-refl}
 use Rattle.fraction.specs.Laws.{zero-is}
 use Rattle.fraction.specs.declared.Fraction.{Fraction}
 use Rattle.grammar.specs.Tree.{Row, Multiplier, Unsplit, Reason, asm, lin, rnd, uns, sol, Derivation, Tree}
 use Rattle.rules.specs.Tests.{All, In}
 use Rattle.rules.specs.Result.{AllFrom}
 use Rattle.rules.specs.Values.{zeroQ}
 use Rattle.rules.specs.Rows.{variables, objective, Constraint, constraintOf, objectiveWith, Entry, givenRow, derivedRow, rowOf, noRow, entryAt, rowAt}
 use Rattle.rules.specs.RowsLaws.{entry-given, entry-derived}
 use Rattle.rules.specs.Solutions.{towards, Best}
 use Rattle.rules.specs.SolutionsLaws.{all-in}
 use Rattle.rules.specs.Assumptions.{HasReason, Assumes, itself, by-lin, by-rnd, by-first, by-second}
 use Rattle.rules.specs.Derivations.{named, DominatesRow, ByReason, Derived}
-use Rattle.sentence.specs.Points.{Point, HoldsAt, FeasiblePoint}
-use Rattle.sentence.specs.Formed.{RowFormed, DerivationFormed, WellFormed}
-use Rattle.sentence.specs.Senses.{Rel, rel-same}
-use Rattle.sentence.specs.Scale.{scaled, Fair, fair, fair-whole}
-use Rattle.sentence.specs.Lines.{weight, line-terms}
-use Rattle.sentence.specs.Sound.{True, row-true, dominated-true, combination-true, rounded-true, split-true}
+use Rattle.rules.specs.Sentence.Points.{Point, HoldsAt, FeasiblePoint}
+use Rattle.rules.specs.Sentence.Formed.{RowFormed, DerivationFormed, WellFormed}
+use Rattle.rules.specs.Sentence.Senses.{Rel, rel-same}
+use Rattle.rules.specs.Sentence.Scale.{scaled, Fair, fair, fair-whole}
+use Rattle.rules.specs.Sentence.Lines.{weight, line-terms}
+use Rattle.rules.specs.Sentence.Sound.{True, row-true, dominated-true, combination-true, rounded-true, split-true}
 
 -- ---- lists
 

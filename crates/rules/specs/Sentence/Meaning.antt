@@ -16,23 +16,23 @@ use Rattle.fraction.specs.Fraction.{IsFraction, exact}
 use Rattle.fraction.specs.Laws.{zeroF}
 use Rattle.fraction.specs.declared.Fraction.{Fraction}
 use Rattle.grammar.specs.Tree.{Term, Sense, equal, atMost, atLeast, Row, Direction, minimize, maximize, End, infinite, finite, Claim, infeas, range, Solution, Derivation, Tree}
 use Rattle.rules.specs.Tests.{All, Some}
 use Rattle.rules.specs.Result.{Through, Each}
 use Rattle.rules.specs.Values.{Whole}
 use Rattle.rules.specs.Rows.{variables, valueIn, objective, termsOf, Constraint, constraintOf, objectiveWith, Entry, givenRow, derivedRow, rowOf, noRow, entryAt}
 use Rattle.rules.specs.RowsLaws.{entry-derived}
 use Rattle.rules.specs.Solutions.{AddsTerm, LeftSide, Holds, RowHolds, Feasible, towards, endToReach, Reached, Best, bestOf}
 use Rattle.rules.specs.SolutionsLaws.{left-side-fraction, objectives-fractions, best-is}
 use Rattle.rules.specs.Domination.{Absurd, Dominates}
 use Rattle.rules.specs.Claims.{askedBy, LastProves, Answers}
 use Rattle.rules.specs.Meets.{Meets}
-use Rattle.sentence.specs.Points.{Point, coordinate, valueAt, Compares, HoldsAt, FeasiblePoint, objectiveAt, IsPointOf, SolutionFeasible, SomeReaches, ClaimTrue, Sentence}
-use Rattle.sentence.specs.Formed.{Formed, RowFormed, EndFormed, ClaimFormed, WellFormed}
-use Rattle.sentence.specs.Senses.{Rel, rel-same, rel-eq, rel-times, rel-cancel}
-use Rattle.sentence.specs.Scale.{Scales, scales-times, compares-scaled, common, common-positive, scaled, Fair, fair, scaled-zero, at-most-scaled, same-scaled, sum-scaled, product-scaled}
-use Rattle.sentence.specs.Lines.{value-fraction, weight, terms-compare, line-terms}
-use Rattle.sentence.specs.Sound.{True, row-true, absurd-never, dominated-true}
-use Rattle.sentence.specs.Derive.{Good, row-formed, sound}
+use Rattle.rules.specs.Sentence.Points.{Point, coordinate, valueAt, objectiveAt, Compares, HoldsAt, FeasiblePoint, IsPointOf, SolutionFeasible, EveryFeasible, SomeListed, IfFinite, ClaimTrue, Sentence}
+use Rattle.rules.specs.Sentence.Formed.{Formed, RowFormed, EndFormed, ClaimFormed, WellFormed}
+use Rattle.rules.specs.Sentence.Senses.{Rel, rel-same, rel-eq, rel-times, rel-cancel}
+use Rattle.rules.specs.Sentence.Scale.{Scales, scales-times, compares-scaled, common, common-positive, scaled, Fair, fair, scaled-zero, at-most-scaled, same-scaled, sum-scaled, product-scaled}
+use Rattle.rules.specs.Sentence.Lines.{value-fraction, weight, terms-compare, line-terms}
+use Rattle.rules.specs.Sentence.Sound.{True, row-true, absurd-never, dominated-true}
+use Rattle.rules.specs.Sentence.Derive.{Good, row-formed, sound}
 
 -- ---- lists
 
@@ -232,7 +232,7 @@ module _ (tree : Tree) (formed : WellFormed tree) (meets : Meets tree) where
 
   -- what holds at the good feasible points holds at all
   none-beyond : (b : Fraction) → IsFraction b → ((x : Point) → FeasiblePoint tree x → GoodPoint x → True tree x (objectiveWith tree (against direction) b))
-      → (x : Point) → FeasiblePoint tree x → Compares (against direction) (objectiveAt tree x) (exact b)
+      → EveryFeasible tree (λ value. Compares (against direction) value (exact b))
   none-beyond b v h x f =
       terms-compare x (against direction) (variables tree) (objective tree) b (formed .objective-formed) (fair b v) .1
       (⊎-elim (λ g. objective-rel x (against direction) b (h x f g)) worse (good-or-worse x))
@@ -245,7 +245,7 @@ module _ (tree : Tree) (formed : WellFormed tree) (meets : Meets tree) where
           against-trans direction (weight x (objective tree)) (scaled (w .value) *ℤ pos (x .denominator)) (scaled b *ℤ pos (x .denominator)) (w .than) (rel-times (against direction) (x .denominator) (scaled (w .value)) (scaled b) values)
 
   some-reaches : (sense : Sense) (b : Fraction) → IsFraction b → Some (λ o. Holds sense o b) os
-      → Some (λ s. (x : Point) × IsPointOf tree s x × FeasiblePoint tree x × Compares sense (objectiveAt tree x) (exact b)) (tree .solutions .solutions)
+      → SomeListed tree (λ value. Compares sense value (exact b))
   some-reaches sense b v h = some-zip at-point (tree .solutions .solutions) listed-all (objectives-some (λ o. Holds sense o b) h)
     where
       at-point : (s : Solution) → Listed s → Listed s × ((o : Fraction) × LeftSide (s .values .terms) (objective tree) o × Holds sense o b)
@@ -292,13 +292,13 @@ module _ (tree : Tree) (formed : WellFormed tree) (meets : Meets tree) where
   -- ---- the claim
 
   bounded : (d : Direction) → direction ≡ d → (b : Fraction) → IsFraction b → LastProves tree (λ c. Dominates (variables tree) c (objectiveWith tree (against d) b))
-      → (x : Point) → FeasiblePoint tree x → Compares (against d) (objectiveAt tree x) (exact b)
+      → EveryFeasible tree (λ value. Compares (against d) value (exact b))
   bounded d q b v a =
-      subst (λ (d : Direction). (x : Point) → FeasiblePoint tree x → Compares (against d) (objectiveAt tree x) (exact b)) q
+      subst (λ (d : Direction). EveryFeasible tree (λ value. Compares (against d) value (exact b))) q
       (none-beyond b v
       (subst (λ (d : Direction). (x : Point) → FeasiblePoint tree x → GoodPoint x → True tree x (objectiveWith tree (against d) b)) (sym q) (asked-true (objectiveWith tree (against d) b) a)))
 
-  reached-by : (d : Direction) (e : End) → EndFormed e → Reached d e os → SomeReaches tree (towards d) e
+  reached-by : (d : Direction) (e : End) → EndFormed e → Reached d e os → IfFinite e (λ bound. SomeListed tree (λ value. Compares (towards d) value bound))
   reached-by d infinite v r = tt
   reached-by d (finite b) v r = some-reaches (towards d) b v r
 

@@ -1,1 +1,0 @@
-// What a verified certificate says of the problem itself is in specs/. There is no code here.
