@@ -60,7 +60,12 @@ uint8_t vipr_read_value(const uint8_t *token, size_t length, int32_t *num, int32
 uint8_t vipr_read_certificate(const uint8_t *text, size_t length, uint16_t *index, size_t index_cells, int32_t *values,
                               size_t value_cells, uint16_t *rows, size_t row_cells, uint32_t *line);
 
-/* Reads a text into the tables and checks what was read. Returns 0, where it is verified, or 1 to 18. */
+/* Reads a text into the tables and checks what was read. Returns 0, where it is verified, or 1 to 18.
+ *
+ * Where 0 is returned, the text spells one certificate, and of the problem that it states: each listed solution is a feasible
+ * point; with infeas there is no feasible point; with range and min none has an objective below a finite lb, and a listed solution
+ * has one of at most a finite ub; with range and max none has one above a finite ub, and a listed solution has one of at least a
+ * finite lb. (docs/SENTENCE.md.) */
 uint8_t vipr_verify(const uint8_t *text, size_t length, uint16_t *index, size_t index_cells, int32_t *values,
                     size_t value_cells, uint16_t *rows, size_t row_cells, uint32_t *line);
 

@@ -1,24 +1,21 @@
 -- From reading to verifying: what a taken text leaves in the tables, and what the answer says of what is spelled.
 -- Assumes nothing.
-use mathlib.Core.Path.{_≡_, refl, sym, _∙_, ap, subst}
+use mathlib.Core.Path.{_≡_, refl, sym, _∙_, ap}
 use mathlib.Core.Bool.{Bool, true, false, cond, _&&_}
 use mathlib.Core.List.{List}
 use mathlib.Core.Logic.{_↔_}
-use Prim.Native.Nat.{ℕ, _≤_}
+use Prim.Native.Nat.{ℕ}
 use native.Mathlib.Omega.{arith}
 use borrow.Author.Tests.{leb-true, le-leb}
 use lib.Dec.{leb}
 use lib.IntN.{ℤ, pos}
 use lib.ListN.{length}
 use Rattle.text.specs.Bytes.{Bytes}
-use Rattle.text.specs.Lines.{lineOf}
 use Rattle.fraction.specs.Meaning.{and-true, true-and}
 use Rattle.grammar.specs.Tree.{Tree}
 use Rattle.grammar.specs.Tables.{indexCells, valueCells, rowCells, indexTable, valueTable, rowTable}
 use Rattle.grammar.specs.Texts.{SpellsTree, ReadText, taken, refused, readOf, read-sound, read-complete}
 use Rattle.grammar.specs.declared.Refusal.{Refusal}
-use Rattle.rules.specs.Result as rules
-use Rattle.rules.specs.Tests.{not-true}
 use Rattle.rules.specs.Check.{checkOf}
 use Rattle.rules.specs.Meets.{Meets}
 use Rattle.rules.specs.Agreement.{check-says}
@@ -30,7 +27,7 @@ use Rattle.reader.specs.declared.Reading.{Reading}
 use Rattle.reader.specs.declared.Reading.the-variants as read
 use Rattle.checker.specs.Held.{Held, CertificateIsThere}
 use Rattle.checker.specs.Answers.{verdictSays}
-use Rattle.checker.specs.Means.{not-verified, checked-fine, verified-means}
+use Rattle.checker.specs.Means.{not-verified, passes, verified-means}
 use Rattle.checker.specs.Promise.{verifies, refuses, verificationSays, checkedSays, answerOf, CertificateVerified}
 use Rattle.checker.specs.declared.Verdict.{Verdict}
 use Rattle.checker.specs.declared.Verification.{Verification}
@@ -124,7 +121,7 @@ answered (Refused reason line) e = not-verified e
 pub exactly : (text : Bytes) (index : List ℕ) (values : List ℤ) (rows : List ℕ) (r : Verification)
     → verificationSays r ≡ answerOf text (courseOf text (length index) (length values) (length rows))
     → Begun text index values rows → (r ≡ Verified) ↔ ((tree : Tree) × SpellsTree text tree × Meets tree)
-exactly text index values rows r e b = (λ v. to (readOf text) refl (sym answer ∙ ap verificationSays v), λ h. answered r (answer ∙ from (h .0) (h .1) (h .2)))
+exactly text index values rows r e b = (λ v. to (sym answer ∙ ap verificationSays v), λ h. answered r (answer ∙ from (h .0) (h .1) (h .2)))
   where
     answer : verificationSays r ≡ answerOf text (begun (readOf text))
     answer =
@@ -134,9 +131,8 @@ exactly text index values rows r e b = (λ v. to (readOf text) refl (sym answer 
         (true-and (leb valueCells (length values)) (leb rowCells (length rows)) (le-leb _ _ (b .value-cells)) (le-leb _ _ (b .row-cells))))
         (le-leb _ _ (b .short)))
 
-    to : (read : ReadText) → readOf text ≡ read → answerOf text (begun read) ≡ verifies → (tree : Tree) × SpellsTree text tree × Meets tree
-    to (taken tree) q v = (tree, read-sound text tree q, check-says tree .0 (checked-fine text (checkOf tree) v))
-    to (refused reason place) q v = not-verified v
+    to : answerOf text (begun (readOf text)) ≡ verifies → (tree : Tree) × SpellsTree text tree × Meets tree
+    to v = let p = passes text (readOf text) refl v in (p .tree, read-sound text (p .tree) (p .reads), check-says (p .tree) .0 (p .checked))
 
     from : (tree : Tree) → SpellsTree text tree → Meets tree → answerOf text (begun (readOf text)) ≡ verifies
     from tree s m = ap (λ (x : ReadText). answerOf text (begun x)) (read-complete text tree s) ∙ ap (checkedSays text) (check-says tree .1 m)

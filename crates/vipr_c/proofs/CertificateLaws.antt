@@ -8,7 +8,7 @@ use native.Mathlib.Omega.{arith}
 use lib.IntN.{ℤ}
 use lib.ListN.{length}
 use Rattle.text.specs.Bytes.{Bytes}
-use Rattle.grammar.specs.Texts.{ReadText, taken, refused, readOf}
+use Rattle.grammar.specs.Texts.{ReadText, taken, refused}
 use Rattle.grammar.specs.Refusals.{refusalNumber}
 use Rattle.grammar.specs.declared.Refusal.{Refusal}
 use Rattle.grammar.specs.declared.Refusal.the-variants.{TableTooSmall, TextTooLong, TokenMissing, WrongKind, OutOfRange, UsedBefore, ValueTooWide, TokenLeft, SolutionFails, ClaimNotReached, RowSpent, ResultTooWide, MultipliersNotSuitable, CannotBeRounded, NoDomination, NoProperSplit, ClaimNotProved, NoSolutionListed}

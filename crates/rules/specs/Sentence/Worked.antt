@@ -8,7 +8,6 @@ use Prim.Native.Nat.{ℕ, _*_, _<_}
 use native.Mathlib.Omega.{arith}
 use lib.IntN.{ℤ, pos, _+ℤ_, _*ℤ_, zero-*ℤ, +ℤ-idr}
 use lib.Signed.{_≤ℤ_}
-use Rattle.text.specs.Bytes.{Bytes}
 use Rattle.fraction.specs.Quotient.{_≈_, _≤Q_, wholeQ, lowest, floorZ, ceilingZ}
 use Rattle.fraction.specs.Fraction.{isFraction, onFractions, within, order}
 use Rattle.integers.specs.Gcd.{gcd, euclid}
