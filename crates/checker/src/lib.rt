@@ -32,6 +32,8 @@ pub enum Verification {
 }
 
 // Reads a text into the tables, whatever stood in them, and checks what was read. The tables are left as reading leaves them.
+// Where the answer is `Verified`, the sentence about points holds of the text: each listed solution is feasible, and no feasible
+// point lies beyond the verified bound (`verified-means` of the contract).
 pub fn verify(text: &[u8], index: &mut [u16], values: &mut [i32], rows: &mut [u16]) -> Verification
     ensures { λ r. ⌜ CertificateVerified (now (text .entry)) (now (index .entry)) (now (values .entry)) (now (rows .entry)) (now (index .exit)) (now (values .exit)) (now (rows .exit)) r ⌝ }
 {

@@ -39,7 +39,7 @@ abbrev oneTerm : ℕ → TermList
 oneTerm c = record { count = 1; terms = record { variable = 0; coefficient = c over 1 } ∷ [] }
 
 -- the tree that it spells
-unfoldable pub exampleTree : Tree
+pub exampleTree : Tree
 exampleTree =
     record {
       variables = record { count = 1; names = at 14 "x" ∷ [] };

@@ -57,7 +57,7 @@ pub scales-whole : (k : ℕ) (z : ℤ) → Scales k (wholeQ z) (z *ℤ pos k)
 scales-whole k z = *ℤ-pos-one (z *ℤ pos k)
 
 -- a comparison is one of cross products
-pub crossed : (s : Sense) (x y : Quotient) → Compares s x y ↔ Rel s (x .top *ℤ pos (y .bottom)) (y .top *ℤ pos (x .bottom))
+crossed : (s : Sense) (x y : Quotient) → Compares s x y ↔ Rel s (x .top *ℤ pos (y .bottom)) (y .top *ℤ pos (x .bottom))
 unfolding _≈_ _≤Q_
 crossed equal x y = ((λ h. h), λ h. h)
 crossed atMost x y = ((λ h. h), λ h. h)

@@ -1,27 +1,30 @@
--- The sentence of two certificates in whole numbers: what the definitions of Points.antt come to where the problem is small.
--- Both are verified by computation; what is said of X and D is taken from the sentence and from nothing else.
+-- The sentence of three certificates in whole numbers: what the definitions of Points.antt come to where the problem is small.
+-- All are verified, by computation; what is said of numerators and denominators is taken from the sentence and from nothing else.
 -- Assumes nothing.
 use mathlib.Core.Path.{_≡_, refl, sym, _∙_, ap, subst}
-use mathlib.Core.List.{[], _∷_}
-use mathlib.Core.Logic.{_↔_, Iff·trans}
-use Prim.Native.Nat.{ℕ, _*_, _<_}
+use mathlib.Core.List.{List, [], _∷_}
+use mathlib.Core.Logic.{_↔_}
+use Prim.Native.Nat.{ℕ, zero, suc, _*_, _<_}
+use native.Mathlib.Nat.{mul-pos}
 use native.Mathlib.Omega.{arith}
-use lib.IntN.{ℤ, pos, _+ℤ_, _*ℤ_, zero-*ℤ, +ℤ-idr}
+use lib.IntN.{ℤ, pos, negsuc, natAbs, _+ℤ_, _*ℤ_, zero-*ℤ, +ℤ-idr}
 use lib.Signed.{_≤ℤ_}
 use Rattle.text.specs.Bytes.{Bytes, isSeparator, isPrintable, isDigit}
 use Rattle.text.specs.Comments.{commentsEnd}
 use Rattle.text.specs.Tokens.{rest, streamAt}
-use Rattle.fraction.specs.Quotient.{_≈_, wholeQ, lowest, floorZ, ceilingZ}
-use Rattle.fraction.specs.Fraction.{isFraction, onFractions, within, order}
+use Rattle.fraction.specs.Quotient.{_≈_, _*Q_, wholeQ, lowest, floorZ, ceilingZ}
+use Rattle.fraction.specs.QuotientLaws.{Positive}
+use Rattle.fraction.specs.Fraction.{isFraction, exact, onFractions, within, order}
 use Rattle.integers.specs.Gcd.{gcd, euclid}
 use Rattle.integers.specs.Integers.{*ℤ-pos-one}
 use Rattle.value.specs.Spelling.{quotientOf}
 use Rattle.value.specs.Reading.{readValue, outcomeOf, narrowed}
-use Rattle.grammar.specs.Tree.{Sense, atMost, atLeast, Tree}
+use Rattle.grammar.specs.Tree.{Term, Sense, atMost, atLeast, Tree}
 use Rattle.grammar.specs.Reading.{read}
-use Rattle.grammar.specs.Texts.{SpellsTree, ReadText, taken, refused, readOf, read-sound}
-use Rattle.grammar.specs.Example.{example, exampleTree, example-spelled}
-use Rattle.rules.specs.Result.{fine}
+use Rattle.grammar.specs.Texts.{ReadText, taken, refused, readOf, read-sound, read-complete}
+use Rattle.grammar.specs.Example.{example, exampleTree}
+use Rattle.rules.specs.Tests.{All}
+use Rattle.rules.specs.Result.{fine, no-value}
 use Rattle.rules.specs.Values.{wholeF}
 use Rattle.rules.specs.Rows.{valueIn, constraintOf, objectiveWith, entries, entryAt}
 use Rattle.rules.specs.Solutions.{leftSide, checkRow, checkSolution, objectivesOf}
@@ -33,84 +36,141 @@ use Rattle.rules.specs.Assumptions.{setsOf, assumptionsOf}
 use Rattle.rules.specs.Derivations.{checkLin, checkRnd, checkUns, checkDerivation}
 use Rattle.rules.specs.Claims.{isProved}
 use Rattle.rules.specs.Check.{checkOf}
-use Rattle.rules.specs.Worked.{oneInteger}
-use Rattle.rules.specs.Sentence.Points.{Point, valueAt, Compares, FeasiblePoint, Sentence, SentenceOf}
-use Rattle.rules.specs.Sentence.Senses.{Rel, rel-same}
-use Rattle.rules.specs.Sentence.Scale.{crossed}
+use Rattle.rules.specs.Worked.{verdict, oneInteger, mixed}
+use Rattle.rules.specs.Sentence.Points.{Point, coordinate, valueAt, Compares, FeasiblePoint, Sentence, SentenceOf}
+use Rattle.rules.specs.Sentence.Senses.{Rel}
+use Rattle.rules.specs.Sentence.Scale.{Scales, scales-sum, scales-whole, compares-scaled}
 use Rattle.rules.specs.Sentence.Verified.{verified-means}
 
--- ---- one variable: the point X / D
+-- ---- rows with whole coefficients at a point
 
-module _ (X : ℤ) (D : ℕ) (positive : 0 < D) where
-  abbrev point : Point
-  point = record { numerator = λ v. X; denominator = D; positive = positive }
+-- the points X / D, and (X / D, Y / D)
+abbrev one : ℤ → ℕ → ℤ
+one X v = X
 
-  with-units : (y n : ℤ) → (y *ℤ pos 1 +ℤ pos 0 *ℤ n) *ℤ pos 1 ≡ y
-  with-units y n =
-      *ℤ-pos-one (y *ℤ pos 1 +ℤ pos 0 *ℤ n) ∙ ap (λ (z : ℤ). y *ℤ pos 1 +ℤ z) (zero-*ℤ n) ∙ +ℤ-idr (y *ℤ pos 1) ∙ *ℤ-pos-one y
+abbrev two : ℤ → ℤ → ℕ → ℤ
+two X Y zero = X
+two X Y (suc v) = Y
 
-  -- a x compares with b, both whole, exactly as a X does with b D
-  one-term : (s : Sense) (a b : ℤ) → Compares s (valueAt (record { variable = 0; coefficient = wholeF a } ∷ []) point) (wholeQ b) ↔ Rel s (a *ℤ X) (b *ℤ pos D)
-  one-term s a b =
-      let left = with-units (a *ℤ X) (pos (1 * D)) in
-      let right = ap (λ (n : ℕ). b *ℤ pos n) (let e : 1 * D * 1 ≡ D = omega arith in e) in
-      Iff·trans (crossed s (valueAt (record { variable = 0; coefficient = wholeF a } ∷ []) point) (wholeQ b)) (rel-same s left right, rel-same s (sym left) (sym right))
+-- a x, for the variable with this index
+abbrev term : ℤ → ℕ → Term
+term a v = record { variable = v; coefficient = wholeF a }
 
--- ---- document 01's example: maximize x, an integer variable, with 2 x ≤ 3; the claim is `range 1 1`
+module _ (numerator : ℕ → ℤ) (D : ℕ) (positive : 0 < D) where
+  abbrev over : Point
+  over = record { numerator = numerator; denominator = D; positive = positive }
 
-example-checked : checkOf exampleTree ≡ fine
-unfolding exampleTree lowest floorZ ceilingZ gcd euclid isFraction onFractions within order checkOf valueIn constraintOf objectiveWith entries entryAt leftSide checkRow checkSolution objectivesOf isAbsurd sameCoefficients dominates isSuitable senseOf nextCombination combine suitableCombination isIntegral canBeRounded rounded setsOf assumptionsOf checkRnd checkDerivation isProved
-example-checked = refl
+  -- the sum of coefficient times numerator
+  abbrev total : List Term → ℤ
+  total [] = pos 0
+  total (t ∷ []) = t .coefficient .num *ℤ numerator (t .variable)
+  total (t ∷ (u ∷ ts)) = t .coefficient .num *ℤ numerator (t .variable) +ℤ total (u ∷ ts)
 
-pub example-means : SentenceOf example
-example-means = verified-means example exampleTree example-spelled example-checked
+  abbrev WholeTerms : List Term → Type 0
+  WholeTerms ts = All (λ (t : Term). natAbs (t .coefficient .den) ≡ 1) ts
 
--- no feasible point has x above 1: where X / D is whole and 2 X ≤ 3 D, X ≤ D
-pub example-bound : (X z : ℤ) (D : ℕ) → 0 < D → X ≡ z *ℤ pos D → (pos 2 *ℤ X) ≤ℤ (pos 3 *ℤ pos D) → (pos 1 *ℤ X) ≤ℤ (pos 1 *ℤ pos D)
-unfolding exampleTree _≈_
-example-bound X z D positive whole row = one-term X D positive atMost (pos 1) (pos 1) .0 (says .claim-true .0 (point X D positive) feasible)
-  where
-    says : Sentence exampleTree
-    says = subst Sentence (example-means .spelled-once exampleTree example-spelled) (example-means .sentence)
+  total-next : (t : Term) (ts : List Term) → t .coefficient .num *ℤ numerator (t .variable) +ℤ total ts ≡ total (t ∷ ts)
+  total-next t [] = +ℤ-idr (t .coefficient .num *ℤ numerator (t .variable))
+  total-next t (u ∷ ts) = refl
 
-    feasible : FeasiblePoint exampleTree (point X D positive)
-    feasible = record { integers-whole = ((z, *ℤ-pos-one X ∙ whole), tt); rows-hold = (one-term X D positive atMost (pos 2) (pos 3) .1 row, tt) }
+  bottoms : (t : Term) → natAbs (t .coefficient .den) ≡ 1 → natAbs (t .coefficient .den) * D ≡ D
+  bottoms t e = ap (λ (n : ℕ). n * D) e ∙ omega arith
 
--- ---- 2 x ≥ 1 and 2 x ≤ 1, x an integer variable, by branching on x ≤ 0 or x ≥ 1; the claim is `infeas`
+  value-positive : (ts : List Term) → WholeTerms ts → Positive (valueAt ts over)
+  value-positive [] h = omega arith
+  value-positive (t ∷ ts) h = mul-pos (subst (λ (n : ℕ). 0 < n) (sym (bottoms t (h .0))) positive) (value-positive ts (h .1))
 
-abbrev pub branching : Bytes
-branching = oneInteger "OBJ min 0\nCON 2 0 R1 G 1 1 0 2 R2 L 1 1 0 2\nRTP infeas\nSOL 0\nDER 5\nA1 L 0 1 0 1 { asm } -1\nA2 G 1 1 0 1 { asm } -1\nD1 G 1 0 { lin 2 0 1 2 -2 } -1\nD2 L -1 0 { lin 2 1 1 3 -2 } -1\nD3 G 1 0 { uns 4 2 5 3 } -1\n"
+  value-scales : (ts : List Term) → WholeTerms ts → Scales D (valueAt ts over) (total ts)
+  value-scales [] h = ap (λ (z : ℤ). z *ℤ pos 1) (sym (zero-*ℤ (pos D))) ∙ scales-whole D (pos 0)
+  value-scales (t ∷ ts) h =
+      subst (Scales D (valueAt (t ∷ ts) over)) (total-next t ts)
+      (scales-sum D (exact (t .coefficient) *Q coordinate over (t .variable)) (valueAt ts over) (t .coefficient .num *ℤ numerator (t .variable)) (total ts)
+      (ap (λ (n : ℕ). t .coefficient .num *ℤ numerator (t .variable) *ℤ pos n) (bottoms t (h .0))) (value-scales ts (h .1)))
 
--- the tree that a text is read as
+  -- a left side compares with a whole b exactly as the sum does with b D
+  compares : (s : Sense) (ts : List Term) → WholeTerms ts → (b : ℤ) → Compares s (valueAt ts over) (wholeQ b) ↔ Rel s (total ts) (b *ℤ pos D)
+  compares s ts h b =
+      compares-scaled s D (valueAt ts over) (wholeQ b) (total ts) (b *ℤ pos D) positive (value-positive ts h) (omega arith) (value-scales ts h) (scales-whole D b)
+
+-- ---- what a verified text says of the tree that it is read as
+
 abbrev treeOf : ReadText → Tree
 treeOf (taken tree) = tree
 treeOf (refused reason place) = exampleTree
 
-branchingTree : Tree
-branchingTree = treeOf (readOf branching)
+module _ (text : Bytes) (verified : verdict (readOf text) ≡ fine) where
+  means : SentenceOf text
+  means = go (readOf text) refl verified
+    where
+      go : (r : ReadText) → readOf text ≡ r → verdict r ≡ fine → SentenceOf text
+      go (taken tree) r e = verified-means text tree (read-sound text tree r) e
+      go (refused reason place) r e = no-value e
 
-branching-spelled : SpellsTree branching branchingTree
-unfolding branchingTree readOf commentsEnd rest streamAt read isSeparator isPrintable isDigit readValue outcomeOf narrowed quotientOf lowest gcd euclid
-branching-spelled = read-sound branching branchingTree refl
+  says : Sentence (treeOf (readOf text))
+  says = subst Sentence (sym (ap treeOf (read-complete text (means .tree) (means .spelled)))) (means .sentence)
 
-branching-checked : checkOf branchingTree ≡ fine
-unfolding branchingTree readOf commentsEnd rest streamAt read isSeparator isPrintable isDigit readValue outcomeOf narrowed quotientOf lowest floorZ ceilingZ gcd euclid isFraction onFractions within order checkOf valueIn constraintOf objectiveWith entries entryAt leftSide checkRow checkSolution objectivesOf isAbsurd sameCoefficients dominates isSuitable senseOf nextCombination combine suitableCombination isIntegral canBeRounded rounded isSplit isProperSplit setsOf assumptionsOf checkLin checkUns checkDerivation isProved
-branching-checked = refl
+-- ---- the certificates
 
-pub branching-means : SentenceOf branching
-branching-means = verified-means branching branchingTree branching-spelled branching-checked
+-- `example` is 01's: maximize x, an integer variable, with 2 x ≤ 3, by rounding; the claim is `range 1 1`
 
--- there is no feasible point: X / D is not whole where D ≤ 2 X and 2 X ≤ D
-pub branching-none : (X z : ℤ) (D : ℕ) → 0 < D → X ≡ z *ℤ pos D → (pos 1 *ℤ pos D) ≤ℤ (pos 2 *ℤ X) → (pos 2 *ℤ X) ≤ℤ (pos 1 *ℤ pos D) → ⊥
-unfolding branchingTree readOf commentsEnd rest streamAt read isSeparator isPrintable isDigit readValue outcomeOf narrowed quotientOf lowest gcd euclid _≈_
-branching-none X z D positive whole first second = says .claim-true (point X D positive) feasible
+-- 2 x ≥ 1 and 2 x ≤ 1, x an integer variable, by branching on x ≤ 0 or x ≥ 1; the claim is `infeas`
+abbrev pub branching : Bytes
+branching =
+    oneInteger "OBJ min 0\nCON 2 0 R1 G 1 1 0 2 R2 L 1 1 0 2\nRTP infeas\nSOL 0\nDER 5\nA1 L 0 1 0 1 { asm } -1\nA2 G 1 1 0 1 { asm } -1\nD1 G 1 0 { lin 2 0 1 2 -2 } -1\nD2 L -1 0 { lin 2 1 1 3 -2 } -1\nD3 G 1 0 { uns 4 2 5 3 } -1\n"
+
+-- minimize y with 2 x + y ≥ 3 and y ≥ x, x an integer variable, by branching and the bound y ≤ 1 of the solution (`sol`), which
+-- does not hold at every feasible point; the claim is `range 1 1`
+abbrev pub pruned : Bytes
+pruned =
+    mixed "OBJ min 1 1 1\nCON 2 0 R1 G 3 2 0 2 1 1 R2 G 0 2 0 -1 1 1\nRTP range 1 1\nSOL 1 a 2 0 1 1 1\nDER 6\nS1 L 1 OBJ { sol } -1\nA1 L 0 1 0 1 { asm } -1\nA2 G 1 1 0 1 { asm } -1\nD1 G 2 0 { lin 3 0 1 3 -2 2 -1 } -1\nD2 G 1 1 1 1 { lin 2 1 1 4 1 } -1\nD3 G 1 OBJ { uns 5 3 6 4 } -1\n"
+
+all-verified : (verdict (readOf example) ≡ fine) × ((verdict (readOf branching) ≡ fine) × (verdict (readOf pruned) ≡ fine))
+unfolding readOf commentsEnd rest streamAt read isSeparator isPrintable isDigit readValue outcomeOf narrowed quotientOf lowest floorZ ceilingZ gcd euclid isFraction onFractions within order checkOf valueIn constraintOf objectiveWith entries entryAt leftSide checkRow checkSolution objectivesOf isAbsurd sameCoefficients dominates isSuitable senseOf nextCombination combine suitableCombination isIntegral canBeRounded rounded isSplit isProperSplit setsOf assumptionsOf checkLin checkRnd checkUns checkDerivation isProved
+all-verified = (refl, (refl, refl))
+
+-- ---- in whole numbers
+
+-- no feasible point has x above 1: where X / D is whole and 2 X ≤ 3 D, X ≤ D
+pub example-bound : (X z : ℤ) (D : ℕ) → 0 < D → X ≡ z *ℤ pos D → (pos 2 *ℤ X) ≤ℤ (pos 3 *ℤ pos D) → (pos 1 *ℤ X) ≤ℤ (pos 1 *ℤ pos D)
+unfolding readOf commentsEnd rest streamAt read isSeparator isPrintable isDigit readValue outcomeOf narrowed quotientOf lowest gcd euclid _≈_
+example-bound X z D positive whole row =
+    compares (one X) D positive atMost (term (pos 1) 0 ∷ []) (refl, tt) (pos 1) .0 (says example (all-verified .0) .claim-true .0 (over (one X) D positive) feasible)
   where
-    says : Sentence branchingTree
-    says = subst Sentence (branching-means .spelled-once branchingTree branching-spelled) (branching-means .sentence)
-
-    feasible : FeasiblePoint branchingTree (point X D positive)
+    feasible : FeasiblePoint (treeOf (readOf example)) (over (one X) D positive)
     feasible =
         record {
           integers-whole = ((z, *ℤ-pos-one X ∙ whole), tt);
-          rows-hold = (one-term X D positive atLeast (pos 2) (pos 1) .1 first, (one-term X D positive atMost (pos 2) (pos 1) .1 second, tt));
+          rows-hold = (compares (one X) D positive atMost (term (pos 2) 0 ∷ []) (refl, tt) (pos 3) .1 row, tt);
+        }
+
+-- there is no feasible point: X / D is not whole where D ≤ 2 X and 2 X ≤ D
+pub branching-none : (X z : ℤ) (D : ℕ) → 0 < D → X ≡ z *ℤ pos D → (pos 1 *ℤ pos D) ≤ℤ (pos 2 *ℤ X) → (pos 2 *ℤ X) ≤ℤ (pos 1 *ℤ pos D) → ⊥
+unfolding readOf commentsEnd rest streamAt read isSeparator isPrintable isDigit readValue outcomeOf narrowed quotientOf lowest gcd euclid _≈_
+branching-none X z D positive whole first second = says branching (all-verified .1 .0) .claim-true (over (one X) D positive) feasible
+  where
+    feasible : FeasiblePoint (treeOf (readOf branching)) (over (one X) D positive)
+    feasible =
+        record {
+          integers-whole = ((z, *ℤ-pos-one X ∙ whole), tt);
+          rows-hold = (
+            compares (one X) D positive atLeast (term (pos 2) 0 ∷ []) (refl, tt) (pos 1) .1 first,
+            (compares (one X) D positive atMost (term (pos 2) 0 ∷ []) (refl, tt) (pos 1) .1 second, tt),
+          );
+        }
+
+-- no feasible point has y below 1: where X / D is whole, 3 D ≤ 2 X + Y and 0 ≤ -X + Y, D ≤ Y
+pub pruned-bound : (X Y z : ℤ) (D : ℕ) → 0 < D → X ≡ z *ℤ pos D → (pos 3 *ℤ pos D) ≤ℤ (pos 2 *ℤ X +ℤ pos 1 *ℤ Y) → (pos 0 *ℤ pos D) ≤ℤ (negsuc 0 *ℤ X +ℤ pos 1 *ℤ Y)
+    → (pos 1 *ℤ pos D) ≤ℤ (pos 1 *ℤ Y)
+unfolding readOf commentsEnd rest streamAt read isSeparator isPrintable isDigit readValue outcomeOf narrowed quotientOf lowest gcd euclid _≈_
+pruned-bound X Y z D positive whole first second =
+    compares (two X Y) D positive atLeast (term (pos 1) 1 ∷ []) (refl, tt) (pos 1) .0 (says pruned (all-verified .1 .1) .claim-true .0 (over (two X Y) D positive) feasible)
+  where
+    feasible : FeasiblePoint (treeOf (readOf pruned)) (over (two X Y) D positive)
+    feasible =
+        record {
+          integers-whole = ((z, *ℤ-pos-one X ∙ whole), tt);
+          rows-hold = (
+            compares (two X Y) D positive atLeast (term (pos 2) 0 ∷ term (pos 1) 1 ∷ []) (refl, (refl, tt)) (pos 3) .1 first,
+            (compares (two X Y) D positive atLeast (term (negsuc 0) 0 ∷ term (pos 1) 1 ∷ []) (refl, (refl, tt)) (pos 0) .1 second, tt),
+          );
         }
