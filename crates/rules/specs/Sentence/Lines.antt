@@ -24,7 +24,7 @@ use Rattle.rules.specs.Combinations.{withCoefficient, AddsMultiple}
 use Rattle.rules.specs.Sentence.Points.{Point, coordinate, valueAt, Compares}
 use Rattle.rules.specs.Sentence.Formed.{Formed}
 use Rattle.rules.specs.Sentence.Senses.{Rel}
-use Rattle.rules.specs.Sentence.Scale.{Scales, scales-sum, scales-product, scales-times, scales-whole, compares-scaled, common, common-positive, scaled, Fair, fair, scaled-zero, sum-scaled, product-scaled}
+use Rattle.rules.specs.Sentence.Scale.{Scales, scales-sum, scales-product, scales-times, scales-whole, compares-scaled, common, common-positive, scaled, FairBy, Fair, fair, scaled-zero, sum-scaled, product-scaled}
 
 -- ---- values in a term list
 
@@ -55,10 +55,13 @@ module _ (x : Point) where
   abbrev X : ℕ → ℤ
   X v = x .numerator v
 
-  -- the sum of a term list, and of the coefficients of n variables
+  -- the sum of a term list, by a whole number for each coefficient; by `scaled`; and that of the coefficients of n variables
+  abbrev pub sumBy : (Fraction → ℤ) → List Term → ℤ
+  sumBy times [] = pos 0
+  sumBy times (t ∷ ts) = times (t .coefficient) *ℤ X (t .variable) +ℤ sumBy times ts
+
   abbrev pub weight : List Term → ℤ
-  weight [] = pos 0
-  weight (t ∷ ts) = scaled (t .coefficient) *ℤ X (t .variable) +ℤ weight ts
+  weight ts = sumBy scaled ts
 
   abbrev pub line : ℕ → (ℕ → Fraction) → ℤ
   line zero f = pos 0
@@ -66,21 +69,33 @@ module _ (x : Point) where
 
   -- ---- a term list at the point
 
-  value-positive : (n : ℕ) (ts : List Term) → Formed n ts → Positive (valueAt ts x)
-  value-positive n [] h = omega arith
-  value-positive n (t ∷ ts) h = mul-pos (mul-pos (fair (t .coefficient) (h .0 .0) .positive) (x .positive)) (value-positive n ts (h .1 .1))
+  module _ (k : ℕ) (times : Fraction → ℤ) where
+    abbrev pub FairTerms : List Term → Type 0
+    FairTerms ts = All (λ (t : Term). FairBy k times (t .coefficient)) ts
 
-  value-scales : (n : ℕ) (ts : List Term) → Formed n ts → Scales (common * x .denominator) (valueAt ts x) (weight ts)
-  value-scales n [] h = ap (λ (z : ℤ). z *ℤ pos 1) (sym (zero-*ℤ (pos (common * x .denominator)))) ∙ scales-whole (common * x .denominator) (pos 0)
-  value-scales n (t ∷ ts) h =
-      scales-sum (common * x .denominator) (exact (t .coefficient) *Q coordinate x (t .variable)) (valueAt ts x) (scaled (t .coefficient) *ℤ X (t .variable)) (weight ts)
-      (scales-product common (x .denominator) (exact (t .coefficient)) (coordinate x (t .variable)) (scaled (t .coefficient)) (X (t .variable)) (fair (t .coefficient) (h .0 .0) .scales) refl)
-      (value-scales n ts (h .1 .1))
+    value-positive : (ts : List Term) → FairTerms ts → Positive (valueAt ts x)
+    value-positive [] h = omega arith
+    value-positive (t ∷ ts) h = mul-pos (mul-pos (h .0 .positive) (x .positive)) (value-positive ts (h .1))
+
+    value-scales : (ts : List Term) → FairTerms ts → Scales (k * x .denominator) (valueAt ts x) (sumBy times ts)
+    value-scales [] h = ap (λ (z : ℤ). z *ℤ pos 1) (sym (zero-*ℤ (pos (k * x .denominator)))) ∙ scales-whole (k * x .denominator) (pos 0)
+    value-scales (t ∷ ts) h =
+        scales-sum (k * x .denominator) (exact (t .coefficient) *Q coordinate x (t .variable)) (valueAt ts x) (times (t .coefficient) *ℤ X (t .variable)) (sumBy times ts)
+        (scales-product k (x .denominator) (exact (t .coefficient)) (coordinate x (t .variable)) (times (t .coefficient)) (X (t .variable)) (h .0 .scales) refl)
+        (value-scales ts (h .1))
+
+    -- a left side compares with a value as these whole numbers do
+    pub sum-compares : 0 < k → (s : Sense) (ts : List Term) (b : Fraction) → FairTerms ts → FairBy k times b → Compares s (valueAt ts x) (exact b) ↔ Rel s (sumBy times ts) (times b *ℤ pos (x .denominator))
+    sum-compares p s ts b h v =
+        compares-scaled s (k * x .denominator) (valueAt ts x) (exact b) (sumBy times ts) (times b *ℤ pos (x .denominator)) (mul-pos p (x .positive)) (value-positive ts h) (v .positive)
+        (value-scales ts h) (scales-times k (x .denominator) (exact b) (times b) (v .scales))
+
+  formed-fair : (n : ℕ) (ts : List Term) → Formed n ts → FairTerms common scaled ts
+  formed-fair n [] h = tt
+  formed-fair n (t ∷ ts) h = (fair (t .coefficient) (h .0 .0), formed-fair n ts (h .1 .1))
 
   pub terms-compare : (s : Sense) (n : ℕ) (ts : List Term) (b : Fraction) → Formed n ts → Fair b → Compares s (valueAt ts x) (exact b) ↔ Rel s (weight ts) (scaled b *ℤ pos (x .denominator))
-  terms-compare s n ts b h v =
-      compares-scaled s (common * x .denominator) (valueAt ts x) (exact b) (weight ts) (scaled b *ℤ pos (x .denominator)) (mul-pos common-positive (x .positive)) (value-positive n ts h) (v .positive)
-      (value-scales n ts h) (scales-times common (x .denominator) (exact b) (scaled b) (v .scales))
+  terms-compare s n ts b h v = sum-compares common scaled common-positive s ts b (formed-fair n ts h) v
 
   -- ---- coefficients
 

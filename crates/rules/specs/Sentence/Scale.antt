@@ -122,10 +122,14 @@ common-divides d h l = factorial-divides limit d h l
 unfoldable pub scaled : Fraction → ℤ
 scaled f = f .num *ℤ pos (common / natAbs (f .den))
 
--- the denominator is positive, and `scaled f` is `common` times f: of a fraction, and of a whole number of any size
-pub record Fair (f : Fraction) : Type 0 where
+-- the denominator is positive, and `times f` is k times f
+pub record FairBy (k : ℕ) (times : Fraction → ℤ) (f : Fraction) : Type 0 where
   pub positive : Positive (exact f)
-  pub scales : Scales common (exact f) (scaled f)
+  pub scales : Scales k (exact f) (times f)
+
+-- with that number: so it is of a fraction, and of a whole number of any size
+abbrev pub Fair : Fraction → Type 0
+Fair f = FairBy common scaled f
 
 pub fair : (f : Fraction) → IsFraction f → Fair f
 unfolding scaled

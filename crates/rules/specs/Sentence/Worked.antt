@@ -3,18 +3,16 @@
 -- Assumes nothing.
 use mathlib.Core.Path.{_≡_, refl, sym, _∙_, ap, subst}
 use mathlib.Core.List.{List, [], _∷_}
-use mathlib.Core.Logic.{_↔_}
-use Prim.Native.Nat.{ℕ, zero, suc, _*_, _<_}
-use native.Mathlib.Nat.{mul-pos}
+use mathlib.Core.Logic.{_↔_, Iff·trans}
+use Prim.Native.Nat.{ℕ, zero, suc, _<_}
 use native.Mathlib.Omega.{arith}
-use lib.IntN.{ℤ, pos, negsuc, natAbs, _+ℤ_, _*ℤ_, zero-*ℤ, +ℤ-idr}
+use lib.IntN.{ℤ, pos, negsuc, _+ℤ_, _*ℤ_, +ℤ-idr}
 use lib.Signed.{_≤ℤ_}
 use Rattle.text.specs.Bytes.{Bytes, isSeparator, isPrintable, isDigit}
 use Rattle.text.specs.Comments.{commentsEnd}
 use Rattle.text.specs.Tokens.{rest, streamAt}
-use Rattle.fraction.specs.Quotient.{_≈_, _*Q_, wholeQ, lowest, floorZ, ceilingZ}
-use Rattle.fraction.specs.QuotientLaws.{Positive}
-use Rattle.fraction.specs.Fraction.{isFraction, exact, onFractions, within, order}
+use Rattle.fraction.specs.Quotient.{_≈_, wholeQ, lowest, floorZ, ceilingZ}
+use Rattle.fraction.specs.Fraction.{isFraction, onFractions, within, order}
 use Rattle.integers.specs.Gcd.{gcd, euclid}
 use Rattle.integers.specs.Integers.{*ℤ-pos-one}
 use Rattle.value.specs.Spelling.{quotientOf}
@@ -23,7 +21,6 @@ use Rattle.grammar.specs.Tree.{Term, Sense, atMost, atLeast, Tree}
 use Rattle.grammar.specs.Reading.{read}
 use Rattle.grammar.specs.Texts.{ReadText, taken, refused, readOf, read-sound, read-complete}
 use Rattle.grammar.specs.Example.{example, exampleTree}
-use Rattle.rules.specs.Tests.{All}
 use Rattle.rules.specs.Result.{fine, no-value}
 use Rattle.rules.specs.Values.{wholeF}
 use Rattle.rules.specs.Rows.{valueIn, constraintOf, objectiveWith, entries, entryAt}
@@ -37,9 +34,10 @@ use Rattle.rules.specs.Derivations.{checkLin, checkRnd, checkUns, checkD
 use Rattle.rules.specs.Claims.{isProved}
 use Rattle.rules.specs.Check.{checkOf}
 use Rattle.rules.specs.Worked.{verdict, oneInteger, mixed}
-use Rattle.rules.specs.Sentence.Points.{Point, coordinate, valueAt, Compares, FeasiblePoint, Sentence, SentenceOf}
-use Rattle.rules.specs.Sentence.Senses.{Rel}
-use Rattle.rules.specs.Sentence.Scale.{Scales, scales-sum, scales-whole, compares-scaled}
+use Rattle.rules.specs.Sentence.Points.{Point, valueAt, Compares, FeasiblePoint, Sentence, SentenceOf}
+use Rattle.rules.specs.Sentence.Senses.{Rel, rel-same}
+use Rattle.rules.specs.Sentence.Scale.{FairBy}
+use Rattle.rules.specs.Sentence.Lines.{sumBy, FairTerms, sum-compares}
 use Rattle.rules.specs.Sentence.Verified.{verified-means}
 
 -- ---- rows with whole coefficients at a point
@@ -52,9 +50,13 @@ abbrev two : ℤ → ℤ → ℕ → ℤ
 two X Y zero = X
 two X Y (suc v) = Y
 
--- a x, for the variable with this index
+-- a times the variable with this index
 abbrev term : ℤ → ℕ → Term
 term a v = record { variable = v; coefficient = wholeF a }
+
+-- a whole number is 1 times itself
+whole : (a : ℤ) → FairBy 1 (λ f. f .num) (wholeF a)
+whole a = record { positive = omega arith; scales = refl }
 
 module _ (numerator : ℕ → ℤ) (D : ℕ) (positive : 0 < D) where
   abbrev over : Point
@@ -66,31 +68,16 @@ module _ (numerator : ℕ → ℤ) (D : ℕ) (positive : 0 < D) where
   total (t ∷ []) = t .coefficient .num *ℤ numerator (t .variable)
   total (t ∷ (u ∷ ts)) = t .coefficient .num *ℤ numerator (t .variable) +ℤ total (u ∷ ts)
 
-  abbrev WholeTerms : List Term → Type 0
-  WholeTerms ts = All (λ (t : Term). natAbs (t .coefficient .den) ≡ 1) ts
-
-  total-next : (t : Term) (ts : List Term) → t .coefficient .num *ℤ numerator (t .variable) +ℤ total ts ≡ total (t ∷ ts)
-  total-next t [] = +ℤ-idr (t .coefficient .num *ℤ numerator (t .variable))
-  total-next t (u ∷ ts) = refl
-
-  bottoms : (t : Term) → natAbs (t .coefficient .den) ≡ 1 → natAbs (t .coefficient .den) * D ≡ D
-  bottoms t e = ap (λ (n : ℕ). n * D) e ∙ omega arith
-
-  value-positive : (ts : List Term) → WholeTerms ts → Positive (valueAt ts over)
-  value-positive [] h = omega arith
-  value-positive (t ∷ ts) h = mul-pos (subst (λ (n : ℕ). 0 < n) (sym (bottoms t (h .0))) positive) (value-positive ts (h .1))
-
-  value-scales : (ts : List Term) → WholeTerms ts → Scales D (valueAt ts over) (total ts)
-  value-scales [] h = ap (λ (z : ℤ). z *ℤ pos 1) (sym (zero-*ℤ (pos D))) ∙ scales-whole D (pos 0)
-  value-scales (t ∷ ts) h =
-      subst (Scales D (valueAt (t ∷ ts) over)) (total-next t ts)
-      (scales-sum D (exact (t .coefficient) *Q coordinate over (t .variable)) (valueAt ts over) (t .coefficient .num *ℤ numerator (t .variable)) (total ts)
-      (ap (λ (n : ℕ). t .coefficient .num *ℤ numerator (t .variable) *ℤ pos n) (bottoms t (h .0))) (value-scales ts (h .1)))
+  total-sum : (ts : List Term) → sumBy over (λ f. f .num) ts ≡ total ts
+  total-sum [] = refl
+  total-sum (t ∷ []) = +ℤ-idr (t .coefficient .num *ℤ numerator (t .variable))
+  total-sum (t ∷ (u ∷ ts)) = ap (λ (z : ℤ). t .coefficient .num *ℤ numerator (t .variable) +ℤ z) (total-sum (u ∷ ts))
 
   -- a left side compares with a whole b exactly as the sum does with b D
-  compares : (s : Sense) (ts : List Term) → WholeTerms ts → (b : ℤ) → Compares s (valueAt ts over) (wholeQ b) ↔ Rel s (total ts) (b *ℤ pos D)
+  compares : (s : Sense) (ts : List Term) → FairTerms over 1 (λ f. f .num) ts → (b : ℤ) → Compares s (valueAt ts over) (wholeQ b) ↔ Rel s (total ts) (b *ℤ pos D)
   compares s ts h b =
-      compares-scaled s D (valueAt ts over) (wholeQ b) (total ts) (b *ℤ pos D) positive (value-positive ts h) (omega arith) (value-scales ts h) (scales-whole D b)
+      Iff·trans (sum-compares over 1 (λ f. f .num) (omega arith) s ts (wholeF b) h (whole b))
+      (rel-same s (total-sum ts) refl, rel-same s (sym (total-sum ts)) refl)
 
 -- ---- what a verified text says of the tree that it is read as
 
@@ -133,28 +120,28 @@ all-verified = (refl, (refl, refl))
 -- no feasible point has x above 1: where X / D is whole and 2 X ≤ 3 D, X ≤ D
 pub example-bound : (X z : ℤ) (D : ℕ) → 0 < D → X ≡ z *ℤ pos D → (pos 2 *ℤ X) ≤ℤ (pos 3 *ℤ pos D) → (pos 1 *ℤ X) ≤ℤ (pos 1 *ℤ pos D)
 unfolding readOf commentsEnd rest streamAt read isSeparator isPrintable isDigit readValue outcomeOf narrowed quotientOf lowest gcd euclid _≈_
-example-bound X z D positive whole row =
-    compares (one X) D positive atMost (term (pos 1) 0 ∷ []) (refl, tt) (pos 1) .0 (says example (all-verified .0) .claim-true .0 (over (one X) D positive) feasible)
+example-bound X z D positive multiple row =
+    compares (one X) D positive atMost (term (pos 1) 0 ∷ []) (whole (pos 1), tt) (pos 1) .0 (says example (all-verified .0) .claim-true .0 (over (one X) D positive) feasible)
   where
     feasible : FeasiblePoint (treeOf (readOf example)) (over (one X) D positive)
     feasible =
         record {
-          integers-whole = ((z, *ℤ-pos-one X ∙ whole), tt);
-          rows-hold = (compares (one X) D positive atMost (term (pos 2) 0 ∷ []) (refl, tt) (pos 3) .1 row, tt);
+          integers-whole = ((z, *ℤ-pos-one X ∙ multiple), tt);
+          rows-hold = (compares (one X) D positive atMost (term (pos 2) 0 ∷ []) (whole (pos 2), tt) (pos 3) .1 row, tt);
         }
 
 -- there is no feasible point: X / D is not whole where D ≤ 2 X and 2 X ≤ D
 pub branching-none : (X z : ℤ) (D : ℕ) → 0 < D → X ≡ z *ℤ pos D → (pos 1 *ℤ pos D) ≤ℤ (pos 2 *ℤ X) → (pos 2 *ℤ X) ≤ℤ (pos 1 *ℤ pos D) → ⊥
 unfolding readOf commentsEnd rest streamAt read isSeparator isPrintable isDigit readValue outcomeOf narrowed quotientOf lowest gcd euclid _≈_
-branching-none X z D positive whole first second = says branching (all-verified .1 .0) .claim-true (over (one X) D positive) feasible
+branching-none X z D positive multiple first second = says branching (all-verified .1 .0) .claim-true (over (one X) D positive) feasible
   where
     feasible : FeasiblePoint (treeOf (readOf branching)) (over (one X) D positive)
     feasible =
         record {
-          integers-whole = ((z, *ℤ-pos-one X ∙ whole), tt);
+          integers-whole = ((z, *ℤ-pos-one X ∙ multiple), tt);
           rows-hold = (
-            compares (one X) D positive atLeast (term (pos 2) 0 ∷ []) (refl, tt) (pos 1) .1 first,
-            (compares (one X) D positive atMost (term (pos 2) 0 ∷ []) (refl, tt) (pos 1) .1 second, tt),
+            compares (one X) D positive atLeast (term (pos 2) 0 ∷ []) (whole (pos 2), tt) (pos 1) .1 first,
+            (compares (one X) D positive atMost (term (pos 2) 0 ∷ []) (whole (pos 2), tt) (pos 1) .1 second, tt),
           );
         }
 
@@ -162,15 +149,15 @@ branching-none X z D positive whole first second = says branching (all-verified 
 pub pruned-bound : (X Y z : ℤ) (D : ℕ) → 0 < D → X ≡ z *ℤ pos D → (pos 3 *ℤ pos D) ≤ℤ (pos 2 *ℤ X +ℤ pos 1 *ℤ Y) → (pos 0 *ℤ pos D) ≤ℤ (negsuc 0 *ℤ X +ℤ pos 1 *ℤ Y)
     → (pos 1 *ℤ pos D) ≤ℤ (pos 1 *ℤ Y)
 unfolding readOf commentsEnd rest streamAt read isSeparator isPrintable isDigit readValue outcomeOf narrowed quotientOf lowest gcd euclid _≈_
-pruned-bound X Y z D positive whole first second =
-    compares (two X Y) D positive atLeast (term (pos 1) 1 ∷ []) (refl, tt) (pos 1) .0 (says pruned (all-verified .1 .1) .claim-true .0 (over (two X Y) D positive) feasible)
+pruned-bound X Y z D positive multiple first second =
+    compares (two X Y) D positive atLeast (term (pos 1) 1 ∷ []) (whole (pos 1), tt) (pos 1) .0 (says pruned (all-verified .1 .1) .claim-true .0 (over (two X Y) D positive) feasible)
   where
     feasible : FeasiblePoint (treeOf (readOf pruned)) (over (two X Y) D positive)
     feasible =
         record {
-          integers-whole = ((z, *ℤ-pos-one X ∙ whole), tt);
+          integers-whole = ((z, *ℤ-pos-one X ∙ multiple), tt);
           rows-hold = (
-            compares (two X Y) D positive atLeast (term (pos 2) 0 ∷ term (pos 1) 1 ∷ []) (refl, (refl, tt)) (pos 3) .1 first,
-            (compares (two X Y) D positive atLeast (term (negsuc 0) 0 ∷ term (pos 1) 1 ∷ []) (refl, (refl, tt)) (pos 0) .1 second, tt),
+            compares (two X Y) D positive atLeast (term (pos 2) 0 ∷ term (pos 1) 1 ∷ []) (whole (pos 2), (whole (pos 1), tt)) (pos 3) .1 first,
+            (compares (two X Y) D positive atLeast (term (negsuc 0) 0 ∷ term (pos 1) 1 ∷ []) (whole (negsuc 0), (whole (pos 1), tt)) (pos 0) .1 second, tt),
           );
         }
