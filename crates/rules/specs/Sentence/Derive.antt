@@ -13,7 +13,7 @@ use lib.IntN.{pos, _*ℤ_}
 use Rattle.fraction.specs.QuotientLaws.{≈-refl}
 use Rattle.fraction.specs.Laws.{zero-is}
 use Rattle.fraction.specs.declared.Fraction.{Fraction}
-use Rattle.grammar.specs.Tree.{Row, Multiplier, Unsplit, Reason, asm, lin, rnd, uns, sol, Derivation, Tree}
+use Rattle.grammar.specs.Tree.{Multiplier, Unsplit, Reason, asm, lin, rnd, uns, sol, Derivation, Tree}
 use Rattle.rules.specs.Tests.{All, In}
 use Rattle.rules.specs.Result.{AllFrom}
 use Rattle.rules.specs.Values.{zeroQ}
@@ -40,6 +40,10 @@ all-at P d p (x ∷ xs) h (suc i) = all-at P d p xs (h .1) i
 all-by : {A : Type 0} (P : A → Type 0) (xs : List A) → ((a : A) → In a xs → P a) → All P xs
 all-by P [] f = tt
 all-by P (x ∷ xs) f = (f x (inl refl), all-by P xs (λ a i. f a (inr i)))
+
+pub all-zip : {A : Type 0} {P Q R : A → Type 0} → ((a : A) → P a → Q a → R a) → (xs : List A) → All P xs → All Q xs → All R xs
+all-zip f [] h k = tt
+all-zip f (x ∷ xs) h k = (f x (h .0) (k .0), all-zip f xs (h .1) (k .1))
 
 in-map : {A B : Type 0} (f : A → B) (a : A) (xs : List A) → In a xs → In (f a) (map f xs)
 in-map f a [] i = absurd i
@@ -74,10 +78,6 @@ module _ (tree : Tree) (formed : WellFormed tree) (x : Point) (feasible : Feasib
   known-derived zero own (d ∷ ds) h l = subst (λ (i : ℕ). Known i (derivedRow d)) (omega arith) (h .0, l .0)
   known-derived (suc k) own (d ∷ ds) h l = subst (λ (i : ℕ). Known i (getD (map derivedRow ds) k (givenRow noRow))) (omega arith) (known-derived k (suc own) ds (h .1) (l .1))
 
-  all-both : (rows : List Row) → All (RowFormed tree) rows → All (HoldsAt tree x) rows → All (λ row. RowFormed tree row × HoldsAt tree x row) rows
-  all-both [] h k = tt
-  all-both (row ∷ rows) h k = ((h .0, k .0), all-both rows (h .1) (k .1))
-
   known : (i : ℕ) → Known i (entryAt tree i)
   unfolding Known
   known i = go (ltb i m) refl
@@ -88,7 +88,7 @@ module _ (tree : Tree) (formed : WellFormed tree) (x : Point) (feasible : Feasib
       go : (t : Bool) → ltb i m ≡ t → Known i (entryAt tree i)
       go true e =
           subst (Known i) (sym (entry-given tree i (ltb-true i m e)))
-          (all-at (λ row. RowFormed tree row × HoldsAt tree x row) noRow (known-none i) (tree .constraints .rows) (all-both (tree .constraints .rows) (formed .rows-formed) (feasible .rows-hold)) i)
+          (all-at (λ row. RowFormed tree row × HoldsAt tree x row) noRow (known-none i) (tree .constraints .rows) (all-zip (λ row f h. (f, h)) (tree .constraints .rows) (formed .rows-formed) (feasible .rows-hold)) i)
       go false e =
           let q : m + (i - m) ≡ i = omega (arith, ltb-false i m e) in
           subst (λ (j : ℕ). Known j (entryAt tree j)) q

@@ -32,13 +32,9 @@ use Rattle.rules.specs.Sentence.Senses.{Rel, rel-same, rel-eq, rel-times
 use Rattle.rules.specs.Sentence.Scale.{Scales, scales-times, compares-scaled, common, common-positive, scaled, Fair, fair, scaled-zero, at-most-scaled, same-scaled, sum-scaled, product-scaled}
 use Rattle.rules.specs.Sentence.Lines.{value-fraction, weight, terms-compare, line-terms}
 use Rattle.rules.specs.Sentence.Sound.{True, row-true, absurd-never, dominated-true}
-use Rattle.rules.specs.Sentence.Derive.{Good, row-formed, sound}
+use Rattle.rules.specs.Sentence.Derive.{all-zip, Good, row-formed, sound}
 
 -- ---- lists
-
-all-zip : {A : Type 0} {P Q R : A → Type 0} → ((a : A) → P a → Q a → R a) → (xs : List A) → All P xs → All Q xs → All R xs
-all-zip f [] h k = tt
-all-zip f (x ∷ xs) h k = (f x (h .0) (k .0), all-zip f xs (h .1) (k .1))
 
 some-zip : {A : Type 0} {P Q R : A → Type 0} → ((a : A) → P a → Q a → R a) → (xs : List A) → All P xs → Some Q xs → Some R xs
 some-zip f [] h k = absurd k

@@ -81,6 +81,7 @@ module _ (numerator : ℕ → ℤ) (D : ℕ) (positive : 0 < D) where
 
 -- ---- what a verified text says of the tree that it is read as
 
+-- none of the texts below is refused, so any tree will do there
 abbrev treeOf : ReadText → Tree
 treeOf (taken tree) = tree
 treeOf (refused reason place) = exampleTree
