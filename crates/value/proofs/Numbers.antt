@@ -4,16 +4,17 @@ use mathlib.Core.Path.{_≡_, refl, sym, _∙_, ap, subst}
 use mathlib.Core.Bool.{Bool, true, false, _&&_, and-false}
 use mathlib.Core.List.{[], _∷_, _++_, append-nil}
 use Prim.Native.Nat.{ℕ, suc, _+_, _-_, _*_, _^_, _≤_, _<_}
-use native.Mathlib.Nat.{mul-one, mul-assoc, pow-succ'}
+use native.Mathlib.Nat.{mul-one, one-mul, mul-assoc, mul-le-mul, le-refl, pow-suc, pow-succ'}
 use native.Mathlib.Omega.{arith}
 use borrow.Author.Tests.{eqb-true}
 use lib.ListN.{length, drop, length-append}
 use lib.Seq.{length-take-le, take-all}
 use Rattle.text.specs.Bytes.{Bytes, isDigit, every, leading, isNumeral, numberAfter, numberOf}
 use Rattle.text.specs.BytesLaws.{both, leading-le, leading-every}
-use Rattle.value.specs.Spelling.{isZero, dropLeading, dropTrailing, wholeDigits, decimalDigits}
+use Rattle.value.specs.Spelling.{isZero, dropLeading, dropTrailing, significand, wholeDigits, decimalDigits}
 use Rattle.value.specs.Reading.{digitsOf}
 use Rattle.value.specs.Forms.{by-test, digits-are, numeral-digits}
+use Rattle.value.specs.Agreement.{digit-positive}
 
 -- ---- the number of digits that are put together
 
@@ -39,6 +40,10 @@ trailing-number n z (b ∷ d) e =
     rw t (all-zeros n (b ∷ d) t ∙ ap (λ (k : ℕ). n * 10 ^ k) (omega arith)))
     (λ t. let f : z + suc (decimalDigits d) ≡ suc (length d) = rw t at e in
     rw t (trailing-number (n * 10 + (b - 48)) z d (omega arith)))
+
+pub trailing-shorter : (d : Bytes) → decimalDigits d ≤ length d
+trailing-shorter [] = omega arith
+trailing-shorter (b ∷ d) = by-test (every isZero (b ∷ d)) (λ t. rw t (omega arith)) (λ t. rw t (omega (arith, trailing-shorter d)))
 
 -- ---- one digit more
 
@@ -73,6 +78,43 @@ leading-none (b ∷ w) e = by-test (isZero b) (λ t. rw t (leading-none w (rw t 
 pub leading-some : (w : Bytes) → 0 < wholeDigits w → every isZero w ≡ false
 leading-some [] h = absurd (omega arith)
 leading-some (b ∷ w) h = by-test (isZero b) (λ t. rw t (leading-some w (rw t at h))) (λ t. rw t)
+
+-- a digit is left between the zeros exactly where one is not zero
+starts-with-digit : (b : ℕ) (w : Bytes) → isZero b ≡ false → 0 < length (dropTrailing (b ∷ w))
+starts-with-digit b w z = rw z (omega arith)
+
+pub digit-left : (w : Bytes) → 0 < length (significand w) → every isZero w ≡ false
+digit-left [] h = absurd (omega arith)
+digit-left (b ∷ w) h = by-test (isZero b) (λ t. rw t (digit-left w (rw t at h))) (λ t. rw t)
+
+pub no-digit-left : (w : Bytes) → length (significand w) ≡ 0 → every isZero w ≡ true
+no-digit-left [] e = refl
+no-digit-left (b ∷ w) e =
+    by-test (isZero b) (λ t. rw t (no-digit-left w (rw t at e)))
+    (λ t. absurd (let f : length (dropTrailing (b ∷ w)) ≡ 0 = rw t at e in omega (arith, starts-with-digit b w t)))
+
+-- the number of so many digits
+number-least : (n : ℕ) (d : Bytes) → n * 10 ^ length d ≤ numberAfter n d
+number-least n [] = omega (arith, mul-one n)
+number-least n (b ∷ d) =
+    let step : n * 10 ^ suc (length d) ≡ n * 10 * 10 ^ length d = ap (λ (m : ℕ). n * m) (pow-succ' 10 (length d)) ∙ sym (mul-assoc n 10 (10 ^ length d)) in
+    let more : n * 10 * 10 ^ length d ≤ (n * 10 + (b - 48)) * 10 ^ length d = mul-le-mul (le-add (n * 10) (b - 48)) (le-refl (10 ^ length d)) in
+    omega (arith, number-least (n * 10 + (b - 48)) d)
+  where
+    le-add : (m k : ℕ) → m ≤ m + k
+    le-add m k = omega arith
+
+-- between the zeros the first digit is not 0, so the number has as many digits as are left
+pub number-length : (v : Bytes) → every isDigit v ≡ true → 0 < length (significand v) → 10 ^ length (significand v) ≤ numberOf (significand v) * 10
+number-length [] e h = absurd (omega arith)
+number-length (b ∷ v) e h =
+    by-test (isZero b)
+    (λ t. rw t (number-length v (both (isDigit b) (every isDigit v) e .1) (rw t at h)))
+    (λ t. let q = dropTrailing v in
+    let first : 1 ≤ 0 * 10 + (b - 48) = omega (arith, digit-positive b (both (isDigit b) (every isDigit v) e .0) t) in
+    let least : 1 * 10 ^ length q ≤ (0 * 10 + (b - 48)) * 10 ^ length q = mul-le-mul first (le-refl (10 ^ length q)) in
+    let begins : significand (b ∷ v) ≡ b ∷ q = simp t in
+    subst (λ (u : Bytes). 10 ^ length u ≤ numberOf u * 10) (sym begins) (omega (arith, number-least (0 * 10 + (b - 48)) q, pow-suc 10 (length q), one-mul (10 ^ length q))))
 
 pub leading-number : (w : Bytes) → numberOf (dropLeading w) ≡ numberOf w
 leading-number [] = refl

@@ -3,10 +3,11 @@
 use mathlib.Core.Path.{_≡_, sym, _∙_, ap}
 use mathlib.Core.Bool.{Bool, true, false}
 use mathlib.Core.List.{_∷_, _++_}
-use mathlib.Core.Option.{some}
+use mathlib.Core.Option.{Option, none, some}
 use Prim.Native.Nat.{ℕ, _+_, _-_, _*_, _^_, _≤_, _<_}
 use native.Mathlib.Omega.{arith}
-use borrow.Author.Tests.{lt-ltb, le-ltb}
+use borrow.Author.Tests.{ltb-true, ltb-false, lt-ltb, le-ltb}
+use lib.Dec.{ltb}
 use lib.ListN.{length}
 use lib.Pow.{pow-add}
 use Rattle.integers.specs.Signs.{withSign}
@@ -14,12 +15,12 @@ use Rattle.text.specs.Bytes.{Bytes, every, isNumeral, numberAfter, numberOf}
 use Rattle.fraction.specs.Outcome.{refuses}
 use Rattle.fraction.specs.Quotient.{lowest}
 use Rattle.fraction.specs.Parts.{over}
-use Rattle.value.specs.Spelling.{nothing, isZero, quotientOf, mostDigits, wholeDigits, decimalDigits}
+use Rattle.value.specs.Spelling.{Tail, nothing, point, isZero, quotientOf, mostDigits, wholeDigits, decimalDigits}
 use Rattle.value.specs.Reading.{tailOf, withTail, narrowed, outcomeOf}
-use Rattle.value.specs.Forms.{numeral-digits}
+use Rattle.value.specs.Forms.{by-test, numeral-digits}
 use Rattle.value.specs.Agreement.{number-positive}
 use Rattle.value.specs.Promise.{powerOfTen}
-use Rattle.value.specs.Runs.{Grown, Stands}
+use Rattle.value.specs.Runs.{Grown, Stands, wholeOutcome}
 use Rattle.value.specs.declared.Digits.{Digits}
 use Rattle.value.proofs.Powers.{ten-positive, power-within}
 use Rattle.value.proofs.Numbers.{number-append, trailing-number, leading-none, leading-some}
@@ -43,32 +44,39 @@ module _ (t : Bytes) (r : Digits) (g : Stands t r) (n : r .count ≡ 0 → ⊥) 
   pub slash-positive : isNumeral t ≡ true → r .count ≤ mostDigits → 0 < r .number
   slash-positive e l = rw (g .spells l) (number-positive 0 t (numeral-digits t e) not-all-zero)
 
+-- no tail, no form
+pub no-form : (s : Bool) (w : Bytes) {o : Option Tail} → o ≡ none → outcomeOf (withTail s w o) ≡ refuses 4
+unfolding outcomeOf
+no-form s w e = ap (λ (o : Option Tail). outcomeOf (withTail s w o)) e
+
+-- ---- a whole number
+
+pub whole-wide : (s : Bool) (d : Digits) → mostDigits < d .count → wholeOutcome s d ≡ refuses 7
+whole-wide s d k = rw (lt-ltb mostDigits (d .count) k)
+
+pub whole-narrow : (s : Bool) (d : Digits) → d .count ≤ mostDigits → wholeOutcome s d ≡ narrowed (lowest (over (withSign s (d .number)) 1))
+whole-narrow s d k = rw (le-ltb mostDigits (d .count) k)
+
 module _ (s : Bool) (w : Bytes) (d : Digits) (h : Stands w d) where
-  -- ---- a whole number
-
-  pub whole-wide : mostDigits < d .count → outcomeOf (withTail s w (some nothing)) ≡ refuses 7
-  unfolding outcomeOf
-  whole-wide k = rw (lt-ltb mostDigits (wholeDigits w) (omega (arith, h .counts)))
-
-  pub whole-narrow : d .count ≤ mostDigits → outcomeOf (withTail s w (some nothing)) ≡ narrowed (lowest (over (withSign s (d .number)) 1))
+  pub whole-outcome : wholeOutcome s d ≡ outcomeOf (withTail s w (some nothing))
   unfolding outcomeOf quotientOf
-  whole-narrow k =
-      rw (le-ltb mostDigits (wholeDigits w) (omega (arith, h .counts)), h .spells k)
+  whole-outcome =
+      by-test (ltb mostDigits (d .count))
+      (λ e. let k : mostDigits < d .count = ltb-true _ _ e in
+      whole-wide s d k ∙ sym (rw (lt-ltb mostDigits (wholeDigits w) (omega (arith, h .counts)))))
+      (λ e. let k : d .count ≤ mostDigits = ltb-false _ _ e in
+      whole-narrow s d k ∙ sym (rw (le-ltb mostDigits (wholeDigits w) (omega (arith, h .counts)), h .spells k)))
 
   -- ---- a decimal
 
   module _ (t : Bytes) where
-    pub decimal-misspelled : isNumeral t ≡ false → outcomeOf (withTail s w (tailOf (46 ∷ t))) ≡ refuses 4
-    unfolding outcomeOf
-    decimal-misspelled e = rw e
-
-    module _ (e : isNumeral t ≡ true) (r : Digits) (g : Grown d t r) where
-      pub decimal-wide : mostDigits < r .count → outcomeOf (withTail s w (tailOf (46 ∷ t))) ≡ refuses 7
+    module _ (r : Digits) (g : Grown d t r) where
+      pub decimal-wide : mostDigits < r .count → outcomeOf (withTail s w (some (point t))) ≡ refuses 7
       unfolding outcomeOf
-      decimal-wide k = rw (e, lt-ltb mostDigits (wholeDigits w + decimalDigits t) (omega (arith, h .counts, g .counts)))
+      decimal-wide k = rw (lt-ltb mostDigits (wholeDigits w + decimalDigits t) (omega (arith, h .counts, g .counts)))
 
       module _ (k : r .count ≤ mostDigits) (p : ℕ) (q : p ≡ powerOfTen (length t - r .zeros)) where
-        pub decimal-narrow : outcomeOf (withTail s w (tailOf (46 ∷ t))) ≡ narrowed (lowest (over (withSign s (r .number)) p))
+        pub decimal-narrow : outcomeOf (withTail s w (some (point t))) ≡ narrowed (lowest (over (withSign s (r .number)) p))
         unfolding outcomeOf quotientOf
         decimal-narrow =
             let top : numberOf (w ++ t) ≡ r .number * 10 ^ r .zeros =
@@ -77,7 +85,7 @@ module _ (s : Bool) (w : Bytes) (d : Digits) (h : Stands w d) where
             ∙ trailing-number (d .number) (r .zeros) t (g .trails)
             ∙ ap (λ (n : ℕ). n * 10 ^ r .zeros) (sym (g .spells k)) in
             let bottom : 10 ^ length t ≡ 10 ^ r .zeros * 10 ^ decimalDigits t = ap (λ (n : ℕ). 10 ^ n) (sym (g .trails)) ∙ pow-add 10 (r .zeros) (decimalDigits t) in
-            rw (e, le-ltb mostDigits (wholeDigits w + decimalDigits t) (omega (arith, h .counts, g .counts)), top, bottom, decimal-power d t r g k p q)
+            rw (le-ltb mostDigits (wholeDigits w + decimalDigits t) (omega (arith, h .counts, g .counts)), top, bottom, decimal-power d t r g k p q)
             (ap narrowed (lowest-scaled s (r .number) (10 ^ decimalDigits t) (10 ^ r .zeros) (ten-positive (decimalDigits t)) (ten-positive (r .zeros))))
 
     -- ---- a quotient

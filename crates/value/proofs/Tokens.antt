@@ -6,15 +6,18 @@ use mathlib.Core.List.{[], _∷_}
 use mathlib.Core.Option.{Option, none, some}
 use Prim.Native.Nat.{ℕ, _+_, _≤_, _<_}
 use native.Mathlib.Omega.{arith}
-use borrow.Author.Tests.{eq-eqb, ne-eqb}
-use lib.ListN.{length, getD, drop, drop-of-length-le}
+use borrow.Author.Tests.{eq-eqb, ne-eqb, eqb-true}
+use lib.Dec.{eqb}
+use lib.ListN.{length, getD, take, drop, drop-of-length-le}
 use lib.Seq.{drop-drop}
 use Rattle.text.specs.Bytes.{Bytes, isDigit, leading, isNumeral}
-use Rattle.text.specs.BytesLaws.{uncons, leading-every}
+use Rattle.text.specs.BytesLaws.{uncons, leading-every, leading-stop}
 use Rattle.fraction.specs.Outcome.{refuses}
-use Rattle.value.specs.Spelling.{Tail, nothing}
-use Rattle.value.specs.Reading.{digitsOf, afterDigits, tailOf, withTail, unsignedForm, formOf, outcomeOf, readValue}
+use Rattle.value.specs.Spelling.{Tail, nothing, point, places}
+use Rattle.value.specs.Reading.{digitsOf, afterDigits, afterLetter, exponentFrom, scaledBy, afterPoint, tailOf, withTail, unsignedForm, formOf, outcomeOf, readValue}
 use Rattle.value.specs.Forms.{by-test}
+use Rattle.value.specs.Runs.{isLetter, AfterPoint}
+use Rattle.value.proofs.ExponentLaws.{letter-capital, no-letter}
 
 numeral-some : (t : Bytes) → (leading isDigit t ≡ 0 → ⊥) → isNumeral (digitsOf t) ≡ true
 numeral-some [] n = absurd (n refl)
@@ -36,7 +39,7 @@ module _ (s : Bool) (token : Bytes) (from next : ℕ) (e : next ≡ from + leadi
       rw z
 
   module _ (n : next ≡ from → ⊥) where
-    with-tail : Unsigned (tailOf (drop next token))
+    pub with-tail : Unsigned (tailOf (drop next token))
     with-tail =
         let after : afterDigits (drop from token) ≡ drop next token =
         drop-drop (leading isDigit (drop from token)) from token ∙ ap (λ (i : ℕ). drop i token) (sym e) in
@@ -50,12 +53,85 @@ module _ (s : Bool) (token : Bytes) (from next : ℕ) (e : next ≡ from + leadi
       pub tail-from : (b : ℕ) → getD token next 0 ≡ b → Unsigned (tailOf (b ∷ drop (next + 1) token))
       tail-from b p = with-tail ∙ ap (λ (r : Bytes). withTail s first (tailOf r)) (uncons token next h ∙ ap (λ (x : ℕ). x ∷ drop (next + 1) token) p)
 
-      pub wrong-tail : (getD token next 0 ≡ 46 → ⊥) → (getD token next 0 ≡ 47 → ⊥) → outcomeOf (unsignedForm s (drop from token)) ≡ refuses 4
-      unfolding outcomeOf
-      wrong-tail p q =
-          let b = getD token next 0 in
-          let none-is : tailOf (b ∷ drop (next + 1) token) ≡ none = rw (ne-eqb b 46 p, ne-eqb b 47 q) in
-          ap outcomeOf (tail-from b refl ∙ ap (withTail s first) none-is)
+-- no digit stands after them
+pub run-stops : (token : Bytes) (from next : ℕ) → next ≡ from + leading isDigit (drop from token) → next < length token → isDigit (getD token next 0) ≡ false
+run-stops token from next e h =
+    leading-stop isDigit (drop from token) (getD token next 0) (drop (next + 1) token)
+    (drop-drop (leading isDigit (drop from token)) from token ∙ ap (λ (i : ℕ). drop i token) (sym e) ∙ uncons token next h)
+
+-- ---- a place at which no digit and no slash stands
+
+module _ (token : Bytes) (at : ℕ) (h : at < length token) (d : isDigit (getD token at 0) ≡ false) (n : getD token at 0 ≡ 47 → ⊥) (first : ℕ) (f : AfterPoint (getD token at 0) at first) (end : ℕ) (e : end ≡ first + leading isDigit (drop first token)) where
+  abbrev b : ℕ
+  b = getD token at 0
+
+  abbrev decimals : Bytes
+  decimals = digitsOf (drop first token)
+
+  pub first-bounds : (at ≤ first) × (first ≤ at + 1)
+  first-bounds = by-test (eqb b 46) (λ p. let q : first ≡ at + 1 = rw p at f in (omega arith, omega arith)) (λ p. let q : first ≡ at = rw p at f in (omega arith, omega arith))
+
+  -- without a point nothing is read
+  module _ (p : eqb b 46 ≡ false) where
+    first-is : first ≡ at
+    first-is = rw p at f
+
+    none-leads : leading isDigit (drop first token) ≡ 0
+    none-leads = ap (λ (i : ℕ). leading isDigit (drop i token)) first-is ∙ ap (leading isDigit) (uncons token at h) ∙ (rw d)
+
+    end-is : end ≡ at
+    end-is = omega (arith, none-leads, first-is)
+
+  -- after a point: its digits, and what follows them
+  module _ (p : eqb b 46 ≡ true) where
+    pointed : first ≡ at + 1
+    pointed = rw p at f
+
+    opened : tailOf (drop at token) ≡ tailOf (46 ∷ drop first token)
+    opened = ap tailOf (uncons token at h ∙ ap (λ (x : ℕ). x ∷ drop (at + 1) token) (eqb-true b 46 p) ∙ ap (λ (i : ℕ). 46 ∷ drop i token) (sym pointed))
+
+    after-point : (end ≡ at + 1 → ⊥) → tailOf (drop at token) ≡ afterPoint decimals (drop end token)
+    after-point m =
+        let after : afterDigits (drop first token) ≡ drop end token =
+        drop-drop (leading isDigit (drop first token)) first token ∙ ap (λ (i : ℕ). drop i token) (sym e) in
+        let some-digits : isNumeral decimals ≡ true = numeral-some (drop first token) (λ z. m (omega (arith, pointed))) in
+        opened ∙ (rw (some-digits, after))
+
+  -- a point, and no digit after it
+  pub no-decimals : end ≡ at + 1 → tailOf (drop at token) ≡ none
+  no-decimals m =
+      by-test (eqb b 46)
+      (λ p. let z : leading isDigit (drop first token) ≡ 0 = omega (arith, pointed p) in opened p ∙ (rw z))
+      (λ p. absurd (omega (arith, end-is p)))
+
+  module _ (m : end ≡ at + 1 → ⊥) where
+    -- the digits after it end the token
+    pub decimals-end : length token ≤ end → tailOf (drop at token) ≡ some (point decimals)
+    decimals-end k =
+        by-test (eqb b 46) (λ p. after-point p m ∙ (rw (drop-of-length-le token k)))
+        (λ p. absurd (omega (arith, end-is p)))
+
+    -- they do not, or there is no point
+    pub goes-on : end < length token → (after : Option Bytes) × (places after ≡ decimals) × (tailOf (drop at token) ≡ scaledBy after (exponentFrom (drop end token)))
+    goes-on k = by-test (eqb b 46) with-point without
+      where
+        with-point : eqb b 46 ≡ true → (after : Option Bytes) × (places after ≡ decimals) × (tailOf (drop at token) ≡ scaledBy after (exponentFrom (drop end token)))
+        with-point p = (some decimals, refl, after-point p m ∙ ap (afterPoint decimals) (uncons token end k) ∙ ap (λ (r : Bytes). scaledBy (some decimals) (exponentFrom r)) (sym (uncons token end k)))
+
+        without : eqb b 46 ≡ false → (after : Option Bytes) × (places after ≡ decimals) × (tailOf (drop at token) ≡ scaledBy after (exponentFrom (drop end token)))
+        without p =
+            let no-digits-read : [] ≡ decimals = sym (ap (λ (i : ℕ). take i (drop first token)) (none-leads p)) in
+            let tail-is : tailOf (b ∷ drop (at + 1) token) ≡ scaledBy none (exponentFrom (b ∷ drop (at + 1) token)) = rw (p, ne-eqb b 47 n) in
+            (none, no-digits-read, ap tailOf (uncons token at h) ∙ tail-is ∙ ap (λ (r : Bytes). scaledBy none (exponentFrom r)) (sym (uncons token at h)) ∙ ap (λ (i : ℕ). scaledBy none (exponentFrom (drop i token))) (sym (end-is p)))
+
+-- ---- the letter
+
+module _ (token : Bytes) (end : ℕ) (h : end < length token) where
+  pub letter-from : isLetter (getD token end 0) ≡ true → exponentFrom (drop end token) ≡ afterLetter (eqb (getD token end 0) 69) (drop (end + 1) token)
+  letter-from l = ap exponentFrom (uncons token end h) ∙ letter-capital (getD token end 0) (drop (end + 1) token) l
+
+  pub letter-missing : isLetter (getD token end 0) ≡ false → exponentFrom (drop end token) ≡ none
+  letter-missing l = ap exponentFrom (uncons token end h) ∙ no-letter (getD token end 0) (drop (end + 1) token) l
 
 -- ---- the whole token
 

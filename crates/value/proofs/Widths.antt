@@ -9,10 +9,11 @@ use borrow.Author.Tests.{lt-ltb, le-ltb, leb-true, leb-false}
 use lib.Dec.{leb, ltb}
 use lib.IntN.{ℤ, pos, negℤ, natAbs, _*ℤ_}
 use Rattle.integers.specs.Integers.{*ℤ-neg-l}
-use Rattle.integers.specs.Signs.{withSign}
+use Rattle.integers.specs.Coprime.{coprime-one}
+use Rattle.integers.specs.Signs.{withSign, natAbs-withSign}
 use Rattle.fraction.specs.Outcome.{gives, refuses}
 use Rattle.fraction.specs.Quotient.{Quotient, _≈_, lowest}
-use Rattle.fraction.specs.QuotientLaws.{lowest-cong}
+use Rattle.fraction.specs.QuotientLaws.{≈-refl, lowest-is, lowest-cong}
 use Rattle.fraction.specs.Parts.{over}
 use Rattle.fraction.specs.Fraction.{limit, within}
 use Rattle.fraction.specs.declared.Fraction.{Fraction}
@@ -51,6 +52,14 @@ module _ (x : Quotient) where
 scaled : (s : Bool) (m b c : ℕ) → withSign s (m * c) *ℤ pos b ≡ withSign s m *ℤ pos (c * b)
 scaled true m b c = *ℤ-neg-l (pos (m * c)) (pos b) ∙ ap (λ (n : ℕ). negℤ (pos n)) (mul-assoc m c b) ∙ sym (*ℤ-neg-l (pos m) (pos (c * b)))
 scaled false m b c = ap pos (mul-assoc m c b)
+
+-- a whole number beyond the limit
+pub whole-beyond : (s : Bool) (m : ℕ) → limit < m → narrowed (lowest (over (withSign s m) 1)) ≡ refuses 7
+unfolding narrowed
+whole-beyond s m h =
+    let x = over (withSign s m) 1 in
+    let same : lowest x ≡ x = lowest-is x x (omega arith) (omega arith) (coprime-one (natAbs (withSign s m))) (≈-refl x) in
+    rw (same, natAbs-withSign s m, lt-ltb limit m h)
 
 pub lowest-scaled : (s : Bool) (m b c : ℕ) → 0 < b → 0 < c → lowest (over (withSign s (m * c)) (c * b)) ≡ lowest (over (withSign s m) b)
 unfolding _≈_

@@ -1,16 +1,16 @@
 -- The reading agrees with the relation, for every token: `value-read`. A token is written in one way at most: `written-once`.
 -- Assumes nothing.
 use mathlib.Core.Path.{_≡_, refl, sym, _∙_, ap, subst}
-use mathlib.Core.Bool.{Bool, true, false, _||_}
-use mathlib.Core.List.{[], _∷_}
+use mathlib.Core.Bool.{Bool, true, false, not, _||_}
+use mathlib.Core.List.{[], _∷_, _++_}
 use mathlib.Core.Logic.{_⊎_, inl, inr, ⊎-elim}
 use mathlib.Core.Option.{Option, none, some}
-use Prim.Native.Nat.{ℕ, _+_, _-_, _*_, _≤_, _<_}
+use Prim.Native.Nat.{ℕ, suc, _+_, _-_, _*_, _≤_, _<_}
 use native.Mathlib.Nat.{one-le-pow}
 use native.Mathlib.Omega.{arith}
-use borrow.Author.Tests.{ltb-true, ltb-false, lt-ltb, eqb-false, leb-true}
+use borrow.Author.Tests.{not-true, ltb-true, ltb-false, lt-ltb, eqb-false, leb-true}
 use lib.Dec.{ltb, leb, lt→ltb}
-use lib.IntN.{natAbs}
+use lib.IntN.{ℤ, pos, negsuc, natAbs}
 use lib.ListN.{length}
 use Rattle.text.specs.Bytes.{Bytes, isDigit, every, numberAfter}
 use Rattle.text.specs.BytesLaws.{clash, both}
@@ -19,8 +19,8 @@ use Rattle.fraction.specs.Quotient.{lowest, _≈_}
 use Rattle.fraction.specs.QuotientLaws.{Positive, lowest-positive, lowest-coprime, lowest-equal}
 use Rattle.fraction.specs.Fraction.{limit, IsFraction, exact}
 use Rattle.fraction.specs.declared.Fraction.{Fraction}
-use Rattle.value.specs.Spelling.{Tail, nothing, point, slash, Written, isZero, TailWellFormed, WellFormed, Writes, bottomOf, quotientOf, asFraction, mostDigits, wholeDigits, decimalDigits, TooManyDigits, BeyondLimit, TooWide, SpellsValue, Misspelled}
-use Rattle.value.specs.Reading.{formOf, tooManyDigits, beyondLimit, narrowed, outcomeOf, readValue}
+use Rattle.value.specs.Spelling.{Tail, nothing, point, slash, scaled, Written, isZero, TailWellFormed, WellFormed, Writes, places, significand, powerOf, bottomScaled, bottomOf, quotientOf, asFraction, mostDigits, wholeDigits, decimalDigits, TooManyDigits, mostPower, PowerOutside, BeyondLimit, TooWide, SpellsValue, Misspelled}
+use Rattle.value.specs.Reading.{formOf, tooManyDigits, powerOutside, beyondLimit, narrowed, outcomeOf, readValue}
 use Rattle.value.specs.Promise.{ValueRead}
 use Rattle.value.specs.Forms.{by-test, nothing-found, numeral-digits, form-found, found-writes}
 
@@ -47,11 +47,24 @@ many-digits : (w : Bytes) (tail : Tail) → tooManyDigits w tail ≡ true → To
 many-digits w nothing e = ltb-true mostDigits (wholeDigits w) e
 many-digits w (point d) e = ltb-true mostDigits (wholeDigits w + decimalDigits d) e
 many-digits w (slash d) e = either-above mostDigits (wholeDigits w) (wholeDigits d) e
+many-digits w (scaled d x) e = ltb-true mostDigits (length (significand (w ++ places d))) e
 
 few-digits : (w : Bytes) (tail : Tail) → tooManyDigits w tail ≡ false → TooManyDigits w tail → ⊥
 few-digits w nothing e h = clash e (lt-ltb mostDigits (wholeDigits w) h)
 few-digits w (point d) e h = clash e (lt-ltb mostDigits (wholeDigits w + decimalDigits d) h)
 few-digits w (slash d) e h = neither-above mostDigits (wholeDigits w) (wholeDigits d) e h
+few-digits w (scaled d x) e h = clash e (lt-ltb mostDigits (length (significand (w ++ places d))) h)
+
+power-outside : (w : Bytes) (tail : Tail) → powerOutside w tail ≡ true → PowerOutside w tail
+power-outside w nothing e = clash refl e
+power-outside w (point d) e = clash refl e
+power-outside w (slash d) e = clash refl e
+power-outside w (scaled d x) e =
+    let p = both (not (every isZero (w ++ places d))) (ltb mostPower (natAbs (powerOf w d x))) e in
+    (not-true (every isZero (w ++ places d)) (p .0), ltb-true mostPower (natAbs (powerOf w d x)) (p .1))
+
+power-inside : (w : Bytes) (tail : Tail) → powerOutside w tail ≡ false → PowerOutside w tail → ⊥
+power-inside w (scaled d x) e h = clash (rw (h .0) at e) (lt-ltb mostPower (natAbs (powerOf w d x)) (h .1))
 
 -- ---- the outcome of a written form
 
@@ -61,8 +74,9 @@ unfolding outcomeOf narrowed
 decided w =
     let q = lowest (quotientOf w) in
     by-test (tooManyDigits (w .whole) (w .tail)) (λ d. inl (rw d, inl (many-digits (w .whole) (w .tail) d)))
-    (λ d. by-test (beyondLimit q) (λ l. inl (rw (d, l), inr (either-above limit (natAbs (q .top)) (q .bottom) l)))
-    (λ l. inr (rw (d, l), ⊎-elim (few-digits (w .whole) (w .tail) d) (neither-above limit (natAbs (q .top)) (q .bottom) l))))
+    (λ d. by-test (powerOutside (w .whole) (w .tail)) (λ x. inl (rw (d, x), inr (inl (power-outside (w .whole) (w .tail) x))))
+    (λ x. by-test (beyondLimit q) (λ l. inl (rw (d, x, l), inr (inr (either-above limit (natAbs (q .top)) (q .bottom) l))))
+    (λ l. inr (rw (d, x, l), ⊎-elim (few-digits (w .whole) (w .tail) d) (⊎-elim (power-inside (w .whole) (w .tail) x) (neither-above limit (natAbs (q .top)) (q .bottom) l))))))
 
 -- ---- a well-formed form has a positive denominator
 
@@ -70,7 +84,7 @@ number-grows : (n : ℕ) (d : Bytes) → n ≤ numberAfter n d
 number-grows n [] = omega arith
 number-grows n (b ∷ d) = omega (arith, number-grows (n * 10 + (b - 48)) d)
 
-digit-positive : (b : ℕ) → isDigit b ≡ true → isZero b ≡ false → 48 < b
+pub digit-positive : (b : ℕ) → isDigit b ≡ true → isZero b ≡ false → 48 < b
 unfolding isDigit
 digit-positive b e z = omega (arith, leb-true 48 b (both (leb 48 b) (leb b 57) e .0), eqb-false b 48 z)
 
@@ -82,14 +96,19 @@ number-positive n (b ∷ d) e z =
     (λ h. let p : 48 < b = digit-positive b (both (isDigit b) (every isDigit d) e .0) h in
     omega (arith, number-grows (n * 10 + (b - 48)) d))
 
-bottom-positive : (tail : Tail) → TailWellFormed tail → 0 < bottomOf tail
-bottom-positive nothing f = omega arith
-bottom-positive (point d) f = one-le-pow (length d) 10 (omega arith)
-bottom-positive (slash d) f = number-positive 0 d (numeral-digits d (f .0)) (f .1)
+scaled-positive : (x : ℤ) → 0 < bottomScaled x
+scaled-positive (pos x) = omega arith
+scaled-positive (negsuc x) = one-le-pow (suc x) 10 (omega arith)
 
-quotient-positive : (w : Written) → WellFormed w → Positive (quotientOf w)
+bottom-positive : (w : Bytes) (tail : Tail) → TailWellFormed tail → 0 < bottomOf w tail
+bottom-positive w nothing f = omega arith
+bottom-positive w (point d) f = one-le-pow (length d) 10 (omega arith)
+bottom-positive w (slash d) f = number-positive 0 d (numeral-digits d (f .0)) (f .1)
+bottom-positive w (scaled d e) f = scaled-positive (powerOf w d e)
+
+pub quotient-positive : (w : Written) → WellFormed w → Positive (quotientOf w)
 unfolding quotientOf
-quotient-positive w h = bottom-positive (w .tail) (h .tail-digits)
+quotient-positive w h = bottom-positive (w .whole) (w .tail) (h .tail-digits)
 
 -- ---- what a token spells is a fraction, and the number that is written
 
@@ -100,7 +119,7 @@ spelled-exactly : (token : Bytes) (f : Fraction) (s : SpellsValue f token) → I
 spelled-exactly token f s =
     let q = quotientOf (s .written) in
     let h : Positive q = quotient-positive (s .written) (s .writes .well-formed) in
-    let within : BeyondLimit (lowest q) → ⊥ = λ b. s .not-too-wide (inr b) in
+    let within : BeyondLimit (lowest q) → ⊥ = λ b. s .not-too-wide (inr (inr b)) in
     subst (λ (g : Fraction). IsFraction g × (exact g ≈ q)) (s .value) (
       record {
         positive = record { lt = lt→ltb 0 (lowest q .bottom) (lowest-positive q h) };

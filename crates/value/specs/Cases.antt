@@ -1,5 +1,6 @@
--- The cases of document 01, "Numbers on either side", that are marked P: one list, under one statement, `cases-hold`. Each
--- is held to the definitions that the contracts cite. The list's other cases are run (crates value_cases, fraction_cases).
+-- The cases of document 01, "Numbers on either side", that are marked P, and cases on either side of the exponents of document
+-- 02, request 1: one list, under one statement, `cases-hold`. Each is held to the definitions that the contracts cite. The
+-- document's other cases are run (crates value_cases, fraction_cases).
 -- Assumes nothing.
 use mathlib.Core.Path.{_≡_, refl}
 use mathlib.Core.List.{List, [], _∷_}
@@ -58,8 +59,30 @@ cases =
     ∷ ceilings (negℤ (pos 1) over pos 2) (gives (pos 0))
     -- "1/65536 times 1/32768 is 12"
     ∷ products (pos 1 over pos 65536) (pos 1 over pos 32768) (refuses 12)
+    -- 02, request 1: "`1.5E-7`"
+    ∷ reads "1.5E-7" (gives (pos 3 over pos 20000000))
+    -- "in 01, `1.5E-101` turns from 4 to 7"
+    ∷ reads "1.5E-101" (refuses 7)
+    -- "an optional sign", before the digits of the exponent too
+    ∷ reads "-1.5e+003" (gives (negℤ (pos 1500) over pos 1))
+    -- "a fraction may not"
+    ∷ reads "1/2E3" (refuses 4)
+    -- "N zero gives 0", whatever x is
+    ∷ reads "0E99999" (gives (pos 0 over pos 1))
+    -- N, "leading and trailing zeros dropped", on both sides of the point
+    ∷ reads "0.00000000000000000015E20" (gives (pos 15 over pos 1))
+    ∷ reads "100000000000000000000E-20" (gives (pos 1 over pos 1))
+    -- "x outside -18 to 18": here x is -18, and then -19
+    ∷ reads "298023223876953125E-18" (gives (pos 78125 over pos 262144))
+    ∷ reads "29802322387695312.5E-18" (refuses 7)
+    -- "N over 18 digits"
+    ∷ reads "1000000000000000001E-18" (refuses 7)
+    -- "a result too wide"
+    ∷ reads "2.147483647E9" (gives (pos 2147483647 over pos 1))
+    ∷ reads "2.147483648E9" (refuses 7)
     ∷ []
 
 pub cases-hold : All cases
 unfolding readValue outcomeOf narrowed quotientOf isDigit lowest floorZ ceilingZ isFraction within onFractions gcd euclid
-cases-hold = (refl, (refl, (refl, (refl, (refl, (refl, (refl, (refl, (refl, (refl, tt))))))))))
+cases-hold =
+    (refl, (refl, (refl, (refl, (refl, (refl, (refl, (refl, (refl, (refl, (refl, (refl, (refl, (refl, (refl, (refl, (refl, (refl, (refl, (refl, (refl, (refl, tt))))))))))))))))))))))

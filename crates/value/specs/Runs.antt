@@ -1,20 +1,32 @@
 -- What the code's digits stand for: the terms of its private contracts. No public contract cites this file.
 -- Assumes nothing.
 use mathlib.Core.Path.{_≡_}
-use mathlib.Core.Bool.{Bool, true, false}
+use mathlib.Core.Bool.{Bool, true, false, cond, _||_}
 use mathlib.Core.List.{[], _∷_, _++_}
-use mathlib.Core.Option.{Option}
+use mathlib.Core.Logic.{_⊎_}
+use mathlib.Core.Option.{Option, none, some}
 use Prim.Native.Nat.{ℕ, _+_, _*_, _^_, _≤_, _<_}
+use lib.Dec.{ltb, eqb}
+use lib.IntN.{ℤ, pos, negℤ, natAbs}
 use lib.ListN.{length}
-use Rattle.text.specs.Bytes.{Bytes, isDigit, leading, isNumeral, numberAfter, numberOf}
-use Rattle.fraction.specs.Outcome.{Outcome}
+use Rattle.integers.specs.Signs.{withSign}
+use Rattle.text.specs.Bytes.{Bytes, isDigit, every, leading, isNumeral, numberAfter, numberOf}
+use Rattle.fraction.specs.Outcome.{Outcome, refuses}
+use Rattle.fraction.specs.Quotient.{lowest}
+use Rattle.fraction.specs.Parts.{over}
 use Rattle.fraction.specs.declared.Fraction.{Fraction}
-use Rattle.value.specs.Spelling.{Tail, dropTrailing, mostDigits, wholeDigits, decimalDigits}
-use Rattle.value.specs.Reading.{digitsOf, withTail, outcomeOf}
+use Rattle.value.specs.Spelling.{Sign, Tail, isMinus, places, topScaled, bottomScaled, dropLeading, dropTrailing, mostDigits, mostPower, wholeDigits, decimalDigits}
+use Rattle.value.specs.Reading.{digitsOf, afterLetter, exponentFrom, scaledBy, withTail, narrowed, outcomeOf}
 use Rattle.value.specs.declared.Digits.{Digits}
 use Rattle.value.specs.declared.Run.{Run}
 use Rattle.value.specs.declared.Part.{Part}
 use Rattle.value.specs.declared.Part.the-variants as part
+use Rattle.value.specs.declared.Ratio.{Ratio}
+use Rattle.value.specs.declared.Ratio.the-variants as ratio
+use Rattle.value.specs.declared.exponents.Exponent.{Exponent}
+use Rattle.value.specs.declared.exponents.Exponent.the-variants as exponent
+use Rattle.value.specs.declared.exponents.Power.{Power}
+use Rattle.value.specs.declared.exponents.Power.the-variants as power
 
 -- no slice has as many bytes
 abbrev pub room : ℕ
@@ -44,11 +56,31 @@ pub record Longer (d : Digits) (digit : ℕ) (r : Digits) : Type 0 where
   pub small : r .number < 10 ^ r .count
   pub grows : (s : Digits) (q : Bytes) → Grown s q d → Grown s (q ++ ((48 + digit) ∷ [])) r
 
--- the run r of the digits that t starts with, where t stands at a place, after the digits of s
-pub record RunRead (t : Bytes) (from : ℕ) (s : Digits) (r : Run) : Type 0 where
+-- the run r of the digits that t starts with, where t stands at a place, after the digits of d
+pub record RunRead (t : Bytes) (from : ℕ) (d : Digits) (r : Run) : Type 0 where
   pub next-is : r .next ≡ from + leading isDigit t
-  pub grown : Grown s (digitsOf t) (r .digits)
+  pub grows : (s : Digits) (q : Bytes) → Grown s q d → Grown s (q ++ digitsOf t) (r .digits)
   pub bounded : Bounded (r .next) (r .digits)
+
+-- no digits
+abbrev pub noDigits : Digits
+noDigits = record { number = 0; count = 0; zeros = 0 }
+
+-- d is the digits v without their leading zeros, and the trailing ones are held back
+pub record Significant (v : Bytes) (d : Digits) : Type 0 where
+  pub all-digits : every isDigit v ≡ true
+  pub grown : Grown noDigits (dropLeading v) d
+
+-- the run r of the digits that t starts with, without their leading zeros
+pub record SignificantRead (t : Bytes) (from : ℕ) (r : Run) : Type 0 where
+  pub next-is : r .next ≡ from + leading isDigit t
+  pub significant : Significant (digitsOf t) (r .digits)
+  pub bounded : Bounded (r .next) (r .digits)
+
+-- r is d with the digits that t starts with after it, without the leading zeros of both together
+pub record Continued (t : Bytes) (d : Digits) (r : Digits) : Type 0 where
+  pub significant : (w : Bytes) → Significant w d → Significant (w ++ digitsOf t) r
+  pub bounded : Bounded room r
 
 -- d is the whole part w, of which no zero is held back
 pub record Stands (w : Bytes) (d : Digits) : Type 0 where
@@ -67,6 +99,86 @@ abbrev pub Ended : Bytes → Digits → Part → Type 0
 Ended t d (part.Digits e) = (isNumeral t ≡ true) × (e ≡ d)
 Ended t d part.NotDigits = isNumeral t ≡ false
 
--- o is the outcome of the form with this sign, the whole part that d is, and this tail
-abbrev pub WithTail : Bool → Digits → Option Tail → Outcome Fraction → Type 0
-WithTail s d tail o = (w : Bytes) → Stands w d → o ≡ outcomeOf (withTail s w tail)
+-- ---- outcomes
+
+-- the outcome of a ratio with a sign; its denominator is positive
+abbrev pub ratioSays : Bool → Ratio → Outcome Fraction
+ratioSays s (ratio.Of p q) = narrowed (lowest (over (withSign s p) q))
+ratioSays s ratio.NotAValue = refuses 4
+ratioSays s ratio.TooWide = refuses 7
+
+abbrev pub PositiveRatio : Ratio → Type 0
+PositiveRatio (ratio.Of p q) = 0 < q
+PositiveRatio ratio.NotAValue = Unit {0}
+PositiveRatio ratio.TooWide = Unit {0}
+
+-- the outcome of a whole number that d is
+abbrev pub wholeOutcome : Bool → Digits → Outcome Fraction
+wholeOutcome s d = cond (ltb mostDigits (d .count)) (refuses 7) (narrowed (lowest (over (withSign s (d .number)) 1)))
+
+-- the outcome of n times ten to the power x, where n is not 0
+abbrev pub scaledOutcome : Bool → ℕ → ℤ → Outcome Fraction
+scaledOutcome s n x = cond (ltb mostPower (natAbs x)) (refuses 7) (narrowed (lowest (over (withSign s (topScaled n x)) (bottomScaled x))))
+
+-- r is the ratio of the form with the whole part that d is and this tail, with either sign
+abbrev pub WithTail : Digits → Option Tail → Ratio → Type 0
+WithTail d tail r = (s : Bool) (w : Bytes) → Stands w d → ratioSays s r ≡ outcomeOf (withTail s w tail)
+
+-- the same, where d is the whole part without the zeros on both sides
+abbrev pub WithSignificant : Digits → Option Tail → Ratio → Type 0
+WithSignificant d tail r = (s : Bool) (w : Bytes) → Significant w d → ratioSays s r ≡ outcomeOf (withTail s w tail)
+
+-- the same, with these digits after the point if there is one, and then an exponent where the rest is one
+abbrev pub Extended : Digits → Bytes → Bytes → Ratio → Type 0
+Extended d decimals rest r =
+    (s : Bool) (w : Bytes) (after : Option Bytes) → Significant w d → places after ≡ decimals
+    → ratioSays s r ≡ outcomeOf (withTail s w (scaledBy after (exponentFrom rest)))
+
+-- the same, where d are all the digits without the zeros on both sides, so many of them after the point, and t is what stands
+-- after the letter
+abbrev pub Scaled : Digits → ℕ → Bytes → Ratio → Type 0
+Scaled d p t r =
+    (s : Bool) (w : Bytes) (after : Option Bytes) (capital : Bool) → Significant (w ++ places after) d → length (places after) ≡ p
+    → ratioSays s r ≡ outcomeOf (withTail s w (scaledBy after (afterLetter capital t)))
+
+-- the place after the byte b at a place, if it is a point
+abbrev pub AfterPoint : ℕ → ℕ → ℕ → Type 0
+AfterPoint b at next = next ≡ cond (eqb b 46) (at + 1) at
+
+-- ---- exponents
+
+-- `E` or `e`
+abbrev pub isLetter : ℕ → Bool
+isLetter b = eqb b 69 || eqb b 101
+
+-- e is the number n; or both are so large that no number of digits makes up for it
+abbrev pub large : ℕ
+large = 2 ^ 60
+
+abbrev pub Saturated : ℕ → ℕ → Type 0
+Saturated n e = (e ≡ n) ⊎ ((large * 10 ≤ e) × (large * 10 ≤ n))
+
+-- the digits t spell the number that e is; or t is no numeral
+abbrev pub NumberRead : Bytes → Bool → Exponent → Type 0
+NumberRead t minus (exponent.Of m e) = (isNumeral t ≡ true) × (m ≡ minus) × Saturated (numberOf t) e
+NumberRead t minus exponent.NotDigits = isNumeral t ≡ false
+
+-- after the letter, t is a sign and digits
+pub record ExponentIs (t : Bytes) (m : Bool) (e : ℕ) : Type 0 where
+  pub sign : Sign
+  pub digits : Bytes
+  pub form : (capital : Bool) → afterLetter capital t ≡ some (record { capital = capital; sign = sign; digits = digits })
+  pub sign-is : isMinus sign ≡ m
+  pub number-is : Saturated (numberOf digits) e
+
+abbrev pub ExponentRead : Bytes → Exponent → Type 0
+ExponentRead t (exponent.Of m e) = ExponentIs t m e
+ExponentRead t exponent.NotDigits = (capital : Bool) → afterLetter capital t ≡ none
+
+-- ---- powers of ten
+
+-- x by its cases: up or down by at most 18, or outside -18 to 18
+abbrev pub PowerIs : ℤ → Power → Type 0
+PowerIs x (power.Up k) = (k ≤ mostPower) × (x ≡ pos k)
+PowerIs x (power.Down k) = (k ≤ mostPower) × (x ≡ negℤ (pos k))
+PowerIs x power.Outside = mostPower < natAbs x

@@ -1,8 +1,8 @@
--- `value::quotient_value` meets its contract: the denominator's digits run to the token's end and are not all zero; then
+-- `value::quotient_ratio` meets its contract: the denominator's digits run to the token's end and are not all zero; then
 -- both widths.
 -- Assumes nothing.
 use borrow.Author.Needs.{needs}
-use mathlib.Core.Path.{_≡_, _∙_, sym}
+use mathlib.Core.Path.{_≡_, sym}
 use mathlib.Core.Bool.{true}
 use lib.ListN.{drop}
 use Rattle.text.specs.Bytes.{Bytes, isNumeral}
@@ -10,8 +10,8 @@ use Rattle.value.specs.Runs.{Stands}
 use Rattle.value.specs.declared.Digits.{Digits}
 use Rattle.value.proofs.Parts.{part-misspelled, part-numeral, part-stands}
 use Rattle.value.proofs.Outcomes.{slash-misspelled, slash-zero, slash-wide-num, slash-wide-den, slash-positive, slash-narrow}
-use Rattle.value.proofs.quotient_value.Statement.{statement}
-use Rattle.value.proofs.quotient_value.Tie as tie
+use Rattle.value.proofs.quotient_ratio.Statement.{statement}
+use Rattle.value.proofs.quotient_ratio.Tie as tie
 
 read-whole-requires : tie.Need-read-whole-requires
 read-whole-requires c κs = search needs
@@ -30,7 +30,7 @@ returns c =
     let at-ended = c .before .before in
     let a = at-ended .before .before .before .args in
     let t = drop (a .from) (a .token .now) in
-    λ w h. sym (slash-misspelled (a .negative) w (a .whole) h t (part-misspelled t _ _ (at-ended .ended .ensures) (c .enum-told .given .1)))
+    (tt, λ s w h. sym (slash-misspelled s w (a .whole) h t (part-misspelled t _ _ (at-ended .ended .ensures) (c .enum-told .given .1))))
 
 -- the digits of the denominator
 module _ (c : tie.After-d) where
@@ -52,36 +52,30 @@ module _ (c : tie.After-d) where
 returns-2 : tie.Need-returns-2
 returns-2 c =
     let p = c .before .before .before in
-    λ w h. sym (slash-zero _ w _ h (after p) (numeral p) (digits p) (stands p) (c .if1 .taken))
+    (tt, λ s w h. sym (slash-zero s w _ h (after p) (numeral p) (digits p) (stands p) (c .if1 .taken)))
 
 returns-3 : tie.Need-returns-3
 returns-3 c =
     let at-if1 = c .before .before in
     let p = at-if1 .before .before .before in
-    λ w h. sym (slash-wide-num _ w _ h (after p) (numeral p) (digits p) (stands p) (at-if1 .if1 .left) (c .if2 .taken))
+    (tt, λ s w h. sym (slash-wide-num s w _ h (after p) (numeral p) (digits p) (stands p) (at-if1 .if1 .left) (c .if2 .taken)))
 
 returns-4 : tie.Need-returns-4
 returns-4 c =
     let at-if2 = c .before .before in
     let at-if1 = at-if2 .before .before in
     let p = at-if1 .before .before .before in
-    λ w h. sym (slash-wide-den _ w _ h (after p) (numeral p) (digits p) (stands p) (at-if1 .if1 .left) (at-if2 .if2 .left) (c .if3 .taken))
-
-reduce-requires : tie.Need-reduce-requires
-reduce-requires c κs =
-    let at-if1 = c .before .before .before .before in
-    let p = at-if1 .before .before .before in
-    slash-positive (after p) (digits p) (stands p) (at-if1 .if1 .left) (numeral p) (c .if3 .left)
+    (tt, λ s w h. sym (slash-wide-den s w _ h (after p) (numeral p) (digits p) (stands p) (at-if1 .if1 .left) (at-if2 .if2 .left) (c .if3 .taken)))
 
 returns-5 : tie.Need-returns-5
 returns-5 c =
-    let at-if2 = c .before .before .before in
+    let at-if2 = c .before .before in
     let at-if1 = at-if2 .before .before in
     let p = at-if1 .before .before .before in
-    λ w h. c .reduce .ensures ∙ sym (slash-narrow _ w _ h (after p) (numeral p) (digits p) (stands p) (at-if1 .if1 .left) (at-if2 .if2 .left) (c .before .if3 .left))
+    (slash-positive (after p) (digits p) (stands p) (at-if1 .if1 .left) (numeral p) (c .if3 .left), λ s w h. sym (slash-narrow s w _ h (after p) (numeral p) (digits p) (stands p) (at-if1 .if1 .left) (at-if2 .if2 .left) (c .if3 .left)))
 
-pub quotient-value-spec : {M : Type 1} → statement M
-quotient-value-spec =
+pub quotient-ratio-spec : {M : Type 1} → statement M
+quotient-ratio-spec =
     tie.close
     (tie.spec
     read-whole-requires
@@ -92,5 +86,4 @@ quotient-value-spec =
     returns-2
     returns-3
     returns-4
-    reduce-requires
     returns-5)

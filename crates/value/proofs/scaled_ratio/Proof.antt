@@ -1,0 +1,93 @@
+-- `value::scaled_ratio` meets its contract: the exponent's spelling, then N zero, its width, and the power of ten.
+-- Assumes nothing.
+use borrow.Author.Needs.{needs}
+use mathlib.Core.Path.{refl, _∙_, sym, subst}
+use mathlib.Core.Logic.{inl}
+use native.Mathlib.Omega.{arith}
+use lib.ListN.{drop}
+use Rattle.text.specs.Bytes.{Bytes, numberOf}
+use Rattle.value.specs.Reading.{afterLetter}
+use Rattle.value.specs.Runs.{ExponentIs, ExponentRead}
+use Rattle.value.proofs.Scaled.{misspelled-exponent, first-digit, scaled-zero, scaled-wide, scaled-power}
+use Rattle.value.proofs.scaled_ratio.Statement.{statement}
+use Rattle.value.proofs.scaled_ratio.Tie as tie
+
+read-exponent-requires : tie.Need-read-exponent-requires
+read-exponent-requires c κs = search needs
+
+enum-known-minus : tie.Need-enum-known-minus
+enum-known-minus c = search needs
+
+enum-told : tie.Need-enum-told
+enum-told c = search needs
+
+returns : tie.Need-returns
+returns c =
+    let at-read = c .before .before in
+    let a = at-read .before .before .args in
+    let t = drop (a .from) (a .token .now) in
+    (tt, λ s w after capital g q. sym (misspelled-exponent s w after (afterLetter capital t) (subst (ExponentRead t) (c .enum-told .given .1) (at-read .read-exponent .ensures) capital)))
+
+-- the exponent was read
+module _ (c : tie.After-minus) where
+  abbrev at-read : tie.After-read-exponent
+  at-read = c .before .before
+
+  abbrev at-start : tie.Start
+  at-start = at-read .before .before
+
+  abbrev after-letter : Bytes
+  after-letter = drop (at-start .args .from) (at-start .args .token .now)
+
+  exponent : ExponentIs after-letter (c .minus .given .0 .0) (c .minus .given .0 .1 .0)
+  exponent = subst (ExponentRead after-letter) (c .minus .given .1) (at-read .read-exponent .ensures)
+
+whole-ratio-requires : tie.Need-whole-ratio-requires
+whole-ratio-requires c κs = search needs
+
+returns-2 : tie.Need-returns-2
+returns-2 c =
+    let p = c .before .before .before .before in
+    (c .whole-ratio .ensures .0, λ s w after capital g q. c .whole-ratio .ensures .1 s ∙ sym (scaled-zero s w after _ g capital (after-letter p) _ _ (exponent p) (c .before .if1 .taken)))
+
+returns-3 : tie.Need-returns-3
+returns-3 c =
+    let p = c .before .before .before .before .before in
+    (tt, λ s w after capital g q. sym (scaled-wide s w after _ g capital (after-letter p) _ _ (exponent p) (c .if2 .taken)))
+
+power-of-requires : tie.Need-power-of-requires
+power-of-requires c κs =
+    let h = at-start (c .before .before .before .before .before) .pre in
+    (h .1, omega (arith, h .0 .short))
+
+times-power-requires : tie.Need-times-power-requires
+times-power-requires c κs =
+    let h = at-start (c .before .before .before .before .before .before) .pre in
+    (c .before .if2 .left, h .0 .small, (_, c .power-of .ensures _ (inl refl)))
+
+returns-4 : tie.Need-returns-4
+returns-4 c =
+    let at-power = c .before in
+    let at-if1 = at-power .before .before .before in
+    let p = at-if1 .before .before .before in
+    let narrow = at-power .before .if2 .left in (
+      c .times-power .ensures .0,
+      λ s w after capital g q.
+          c .times-power .ensures .1 (first-digit _ _ g (at-if1 .if1 .left) narrow) _ (at-power .power-of .ensures (numberOf (exponent p .digits)) (exponent p .number-is)) s
+          ∙ sym (scaled-power s w after _ g capital (after-letter p) _ _ (exponent p) _ q (at-if1 .if1 .left) narrow),
+    )
+
+pub scaled-ratio-spec : {M : Type 1} → statement M
+scaled-ratio-spec =
+    tie.close
+    (tie.spec
+    read-exponent-requires
+    enum-known-minus
+    enum-told
+    returns
+    whole-ratio-requires
+    returns-2
+    returns-3
+    power-of-requires
+    times-power-requires
+    returns-4)

@@ -1,0 +1,71 @@
+-- `value::times_power` meets its contract: up, zeros are put after the digits; down, a power of ten stands below them.
+-- Assumes nothing.
+use borrow.Author.Needs.{needs}
+use mathlib.Core.Path.{_∙_, sym, ap, subst}
+use native.Mathlib.Omega.{arith}
+use Rattle.value.specs.Runs.{PowerIs, scaledOutcome}
+use Rattle.value.proofs.Powers.{ten-positive}
+use Rattle.value.proofs.Scaled.{times-up, down-positive, times-down, times-outside}
+use Rattle.value.proofs.times_power.Statement.{statement}
+use Rattle.value.proofs.times_power.Tie as tie
+
+enum-known-x : tie.Need-enum-known-x
+enum-known-x c = search needs
+
+appended-requires : tie.Need-appended-requires
+appended-requires c κs =
+    let h = c .before .before .before .pre in
+    let k = subst (PowerIs (h .2 .0)) (c .before .x .given .1) (h .2 .1) .0 in
+    (omega (arith, h .0, k), h .1, ten-positive _)
+
+whole-ratio-requires : tie.Need-whole-ratio-requires
+whole-ratio-requires c κs = search needs
+
+enum-known-x-2 : tie.Need-enum-known-x-2
+enum-known-x-2 c = search needs
+
+power-of-ten-requires : tie.Need-power-of-ten-requires
+power-of-ten-requires c κs = search needs
+
+enum-told : tie.Need-enum-told
+enum-told c = search needs
+
+returns : tie.Need-returns
+returns c =
+    let a = c .before .before .before .before .before .args in (
+      c .whole-ratio .ensures .0,
+      λ great z h s.
+          let p = subst (PowerIs z) (c .before .before .before .x .given .1) h in
+          c .whole-ratio .ensures .1 s ∙ times-up s (a .digits) great _ (p .0) _ (c .before .appended .ensures) ∙ ap (scaledOutcome s (a .digits .number)) (sym (p .1)),
+    )
+
+returns-2 : tie.Need-returns-2
+returns-2 c =
+    let at-start = c .before .before .before .before in
+    let a = at-start .args in
+    let h = at-start .pre in
+    let k = subst (PowerIs (h .2 .0)) (c .before .before .x2 .given .1) (h .2 .1) .0 in (
+      down-positive _ k _ (c .power-of-ten .ensures),
+      λ great z h s.
+          let p = subst (PowerIs z) (c .before .before .x2 .given .1) h in
+          times-down _ (p .0) _ (c .power-of-ten .ensures) s (a .digits .number) ∙ ap (scaledOutcome s (a .digits .number)) (sym (p .1)),
+    )
+
+returns-3 : tie.Need-returns-3
+returns-3 c =
+    let a = c .before .before .args in
+    (tt, λ great z h s. sym (times-outside s (a .digits .number) z (subst (PowerIs z) (c .enum-told .given .1) h)))
+
+pub times-power-spec : {M : Type 1} → statement M
+times-power-spec =
+    tie.close
+    (tie.spec
+    enum-known-x
+    appended-requires
+    whole-ratio-requires
+    enum-known-x-2
+    power-of-ten-requires
+    enum-told
+    returns
+    returns-2
+    returns-3)
