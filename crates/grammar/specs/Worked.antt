@@ -178,6 +178,12 @@ cases =
     ∷ con-due & "CON 1 0 R E 1.5-101" gives refuses 4 44 5
     ∷ int-due & "INT 0 OBJ min 1 0 1/0" gives refuses 4 34 3
     ∷ der-due & "DER 1 D E 0 0 { lin 1 0 999999999999999999999." gives refuses 4 89 8
+    -- 02, request 1: an exponent, and the token that is due after it; one that is too wide; one after a fraction
+    ∷ con-due & "CON 1 0 R E 1.5E-7" gives refuses 3 50 5
+    ∷ con-due & "CON 1 0 R E 1.5E-101" gives refuses 7 44 5
+    ∷ con-due & "CON 1 0 R E 1/2E3" gives refuses 4 44 5
+    -- a count has none
+    ∷ con-due & "CON 1E0" gives refuses 4 36 5
     -- 01's example with `R1 L 1.5-101`
     ∷ ascii "VER 1.0\nVAR 1\nx\nINT 1\n0\nOBJ max\n1 0 1\nCON 1 0\nR1 L 1.5-101 1 0 2\nRTP range 1 1\nSOL 1\na 1 0 1\nDER 1\nD1 L 1 OBJ { rnd 1 0 1/2 } -1\n" gives refuses 4 51 9
     -- `inf` only above, `-inf` only below

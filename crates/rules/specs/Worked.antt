@@ -88,6 +88,9 @@ cases =
     ∷ refuses 9 12 (example "R1 L 3 1 0 2" "a 1 0 2" "D1 L 1 OBJ { rnd 1 0 1/2 } -1")
     -- "with `R1 L 1.5-101`, `refused 4 9`": reading goes before checking
     ∷ refuses 4 9 (example "R1 L 1.5-101 1 0 2" "a 1 0 1" "D1 L 1 OBJ { rnd 1 0 1/2 } -1")
+    -- with exponents (02, request 1): the same row, and one too wide
+    ∷ verifies (example "R1 L 0.3E+01 1 0 20e-1" "a 1 0 1E0" "D1 L 1 OBJ { rnd 1 0 5E-1 } -1")
+    ∷ refuses 7 9 (example "R1 L 1.5E-101 1 0 2" "a 1 0 1" "D1 L 1 OBJ { rnd 1 0 1/2 } -1")
     -- ---- source document 000's example, minimize x + y: `lin` and `rnd`, rows given as OBJ, last indices
     ∷ verifies (twoIntegers "OBJ min 2 0 1 1 1\nCON 2 0\nC1 G 1 2 0 4 1 1\nC2 L 2 2 0 4 1 -1\nRTP range 1 1\nSOL 2\nfeas 2 0 1 1 2\nopt 1 1 1\nDER 4\nC3 G -1/2 1 1 1 { lin 2 0 1/2 1 -1/2 } 3\nC4 G 0 1 1 1 { rnd 1 2 1 } 4\nC5 G 1/4 OBJ { lin 2 0 1/4 3 3/4 } 5\nC6 G 1 OBJ { rnd 1 4 1 } 0\n")
     -- ---- solutions

@@ -109,6 +109,94 @@ fn long_quotient() {
     case(b"1, a slash, 2, 3,997 zeros, then a slash", &t);
 }
 
+// A token of 4,001 bytes with an exponent of four digits at its end.
+fn ended(mut t: [u8; 4001], sign: u8, digits: &[u8; 4]) -> [u8; 4001] {
+    t[3995] = b'E';
+    t[3996] = sign;
+    t[3997] = digits[0];
+    t[3998] = digits[1];
+    t[3999] = digits[2];
+    t[4000] = digits[3];
+    t
+}
+
+fn long_significand() {
+    let mut t = [b'0'; 4001];
+    case(b"3,995 zeros, then E+9999", &ended(t, b'+', b"9999"));
+    t[3994] = b'7';
+    case(b"3,994 zeros, 7, then E+0008", &ended(t, b'+', b"0008"));
+    t[0] = b'1';
+    case(b"1, 3,993 zeros, 7, then E-3994", &ended(t, b'-', b"3994"));
+    t[3994] = b'0';
+    case(b"1, 3,994 zeros, then E-3994", &ended(t, b'-', b"3994"));
+    case(b"1, 3,994 zeros, then E-3985", &ended(t, b'-', b"3985"));
+    case(b"1, 3,994 zeros, then E-3984", &ended(t, b'-', b"3984"));
+    case(b"1, 3,994 zeros, then E+3994", &ended(t, b'+', b"3994"));
+    case(b"1, 3,994 zeros, then E*3994", &ended(t, b'*', b"3994"));
+}
+
+fn long_decimals() {
+    let mut t = [b'0'; 4001];
+    t[1] = b'.';
+    case(
+        b"0, a point, 3,993 zeros, then E+9999",
+        &ended(t, b'+', b"9999"),
+    );
+    t[3993] = b'1';
+    t[3994] = b'5';
+    case(
+        b"0, a point, 3,991 zeros, 15, then E+3993",
+        &ended(t, b'+', b"3993"),
+    );
+    case(
+        b"0, a point, 3,991 zeros, 15, then E+3983",
+        &ended(t, b'+', b"3983"),
+    );
+    case(
+        b"0, a point, 3,991 zeros, 15, then E+3974",
+        &ended(t, b'+', b"3974"),
+    );
+    case(
+        b"0, a point, 3,991 zeros, 15, then E-3993",
+        &ended(t, b'-', b"3993"),
+    );
+    t[0] = b'2';
+    case(
+        b"2, a point, 3,991 zeros, 15, then E+0000",
+        &ended(t, b'+', b"0000"),
+    );
+    t[3993] = b'0';
+    t[3994] = b'0';
+    case(
+        b"2, a point, 3,993 zeros, then E+0008",
+        &ended(t, b'+', b"0008"),
+    );
+    case(
+        b"2, a point, 3,993 zeros, then E-0009",
+        &ended(t, b'-', b"0009"),
+    );
+}
+
+fn long_exponent() {
+    let mut t = [b'0'; 4001];
+    t[1] = b'E';
+    case(b"0E, then 3,999 zeros", &t);
+    t[0] = b'7';
+    case(b"7E, then 3,999 zeros", &t);
+    t[4000] = b'8';
+    case(b"7E, 3,998 zeros, then 8", &t);
+    t[2] = b'-';
+    case(b"7E-, 3,997 zeros, then 8", &t);
+    t[3] = b'1';
+    case(b"7E-1, 3,996 zeros, then 8", &t);
+    t[2] = b'+';
+    case(b"7E+1, 3,996 zeros, then 8", &t);
+    t[0] = b'0';
+    case(b"0E+1, 3,996 zeros, then 8", &t);
+    t[4000] = b'x';
+    case(b"0E+1, 3,996 zeros, then x", &t);
+}
+
 fn main() {
     let mut input = io::large_buffer();
     let n = io::read_full(0, &mut input);
@@ -117,4 +205,7 @@ fn main() {
     long_whole();
     long_decimal();
     long_quotient();
+    long_significand();
+    long_decimals();
+    long_exponent();
 }

@@ -53,6 +53,14 @@ fn documents() {
         b"VER 1.0\nVAR 1\nx\nINT 1\n0\nOBJ max\n1 0 1\nCON 1 0\nR1 L 1.5-101 1 0 2\nRTP range 1 1\nSOL 1\na 1 0 1\nDER 1\nD1 L 1 OBJ { rnd 1 0 1/2 } -1\n",
     );
     case(
+        b"with exponents",
+        b"VER 1.0\nVAR 1\nx\nINT 1\n0\nOBJ max\n1 0 1\nCON 1 0\nR1 L 0.3E+01 1 0 20e-1\nRTP range 1 1\nSOL 1\na 1 0 1E0\nDER 1\nD1 L 1 OBJ { rnd 1 0 5E-1 } -1\n",
+    );
+    case(
+        b"with R1 L 1.5E-101",
+        b"VER 1.0\nVAR 1\nx\nINT 1\n0\nOBJ max\n1 0 1\nCON 1 0\nR1 L 1.5E-101 1 0 2\nRTP range 1 1\nSOL 1\na 1 0 1\nDER 1\nD1 L 1 OBJ { rnd 1 0 1/2 } -1\n",
+    );
+    case(
         b"000's example, completed",
         b"VER 1.0\nVAR 2 x y\nINT 2 0 1\nOBJ min 2 0 1 1 1\nCON 2 0\nC1 G 1 2 0 4 1 1\nC2 L 2 2 0 4 1 -1\nRTP range 1 1\nSOL 2\nfeas 2 0 1 1 2\nopt 1 1 1\nDER 4\nC3 G -1/2 1 1 1 { lin 2 0 1/2 1 -1/2 } 3\nC4 G 0 1 1 1 { rnd 1 2 1 } 4\nC5 G 1/4 OBJ { lin 2 0 1/4 3 3/4 } 5\nC6 G 1 OBJ { rnd 1 4 1 } 0\n",
     );
