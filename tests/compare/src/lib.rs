@@ -1,4 +1,4 @@
-//! A plain reader and checker of VIPR 1.0 certificates, written from document 01 alone.
+//! A plain reader and checker of VIPR 1.0 certificates, written from documents 01 and 02 (request 1) alone.
 
 pub mod certificate;
 pub mod checker;

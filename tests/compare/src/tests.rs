@@ -110,6 +110,23 @@ fn reading_refuses() {
     verified(&edited("-1\n", "0000000000000000000000000000000"));
 }
 
+/// Request 1 of 02. Counts and indices are still digits only.
+#[test]
+fn values_may_have_exponents() {
+    let (plain, spelled) = (answer(EXAMPLE), answer(&edited("3 1 0 2", "30E-1 1 0 0.2e+01")));
+    assert_eq!(spelled.result, Ok(()));
+    assert_eq!((spelled.index, spelled.values), (plain.index, plain.values));
+    verified(&edited("1/2 }", "5E-1 }"));
+    verified(&edited("range 1 1", "range 1e0 1E+0"));
+    refused(&edited("R1 L 3", "R1 L 1.5E-101"), 7, 9);
+    refused(&edited("R1 L 3", "R1 L 1.5E"), 4, 9);
+    refused(&edited("a 1 0 1", "a 1 0 2E0"), 9, 12);
+    refused(&edited("1/2 }", "1/2E0 }"), 4, 14);
+    refused(&edited("VAR 1", "VAR 1E0"), 4, 2);
+    refused(&edited("INT 1\n0", "INT 1\n0E5"), 4, 5);
+    refused(&edited("-1\n", "-1E0\n"), 4, 14);
+}
+
 #[test]
 fn lists_have_distinct_indices_and_uns_is_no_list() {
     refused("VER 1.0 VAR 2 x x INT 2 1\n1", 6, 2);

@@ -5,11 +5,12 @@ use plain::fraction::Fraction;
 use plain::reader::MOST_BYTES;
 
 use crate::draft::{Draft, Row, Solution};
+use crate::exponents;
 use crate::prng::Prng;
 use crate::spell::{Kind, Token};
 
-/// Values near the limit, so that 7 and 12 are near.
-const WIDE: [(i64, i64); 10] = [
+/// Values near the limit, so that 7 and 12 are near. The last three are near the limits of an exponent's value too.
+const WIDE: [(i64, i64); 13] = [
     (2147483647, 1),
     (-2147483647, 1),
     (2147483646, 1),
@@ -20,6 +21,9 @@ const WIDE: [(i64, i64); 10] = [
     (65536, 32767),
     (46341, 1),
     (1, 46341),
+    (2000000000, 1),
+    (1, 2000000000),
+    (819199999, 819200000),
 ];
 
 pub fn wide_value(prng: &mut Prng) -> Fraction {
@@ -458,11 +462,17 @@ const EDGE_VALUES: [&str; 18] = [
 
 /// A token from the edges of the rules, or of random bytes of the alphabet of values.
 pub fn edge_token(prng: &mut Prng) -> Vec<u8> {
-    if prng.chance(70) {
-        return prng.pick(&EDGE_TOKENS).as_bytes().to_vec();
+    match prng.below(10) {
+        0..=4 => prng.pick(&EDGE_TOKENS).as_bytes().to_vec(),
+        5..=7 => exponents::edge_token(prng).into_bytes(),
+        _ => random_token(prng),
     }
+}
+
+fn random_token(prng: &mut Prng) -> Vec<u8> {
+    let alphabet: &[u8] = if prng.chance(60) { b"00012345678999-./" } else { b"00012345678999-+.Ee" };
     let most = if prng.chance(90) { 12 } else { 45 };
-    (0..1 + prng.below(most)).map(|_| *prng.pick(b"00012345678999-./")).collect()
+    (0..1 + prng.below(most)).map(|_| *prng.pick(alphabet)).collect()
 }
 
 pub fn damage_tokens(tokens: &mut Vec<Token>, prng: &mut Prng) {
@@ -470,7 +480,7 @@ pub fn damage_tokens(tokens: &mut Vec<Token>, prng: &mut Prng) {
         return;
     }
     let place = prng.below(tokens.len());
-    match prng.below(22) {
+    match prng.below(24) {
         0 => {
             tokens.remove(place);
         }
@@ -498,6 +508,10 @@ pub fn damage_tokens(tokens: &mut Vec<Token>, prng: &mut Prng) {
         17 => alter(tokens, Kind::Sense, prng),
         18 => exceed_count(tokens, prng),
         19 => sully_name(tokens, prng),
+        20 | 21 => {
+            let value = exponents::edge_value(prng);
+            replace(tokens, Kind::Value, value.as_bytes(), prng);
+        }
         _ => alter(tokens, Kind::Word, prng),
     }
 }
@@ -527,10 +541,11 @@ fn alter(tokens: &mut [Token], kind: Kind, prng: &mut Prng) {
 fn nudged(bytes: &[u8], prng: &mut Prng) -> Vec<u8> {
     let number = std::str::from_utf8(bytes).ok().and_then(|digits| digits.parse::<i64>().ok());
     let mut nudged = bytes.to_vec();
-    match (number, prng.below(4)) {
+    match (number, prng.below(5)) {
         (Some(number), 0 | 1) => nudged = number.saturating_add(i64::from(*prng.pick(&[-1, 1, 2]))).to_string().into_bytes(),
         (_, 2) => nudged.insert(0, *prng.pick(b"-0/")),
-        _ => nudged.push(*prng.pick(b"0123456789./-")),
+        (_, 3) => nudged.insert(prng.below(bytes.len() + 1), *prng.pick(b"Ee")),
+        _ => nudged.push(*prng.pick(b"0123456789./-+")),
     }
     nudged
 }
@@ -587,7 +602,7 @@ pub fn damage_bytes(text: &mut Vec<u8>, prng: &mut Prng) {
 
 fn any_byte(prng: &mut Prng) -> u8 {
     match prng.below(3) {
-        0 => *prng.pick(b" \n\t\r%-./0123456789{}\x00\x0b\x0c\x20\x21\x7e\x7f\x80\xa0\xff"),
+        0 => *prng.pick(b" \n\t\r%-+./Ee0123456789{}\x00\x0b\x0c\x20\x21\x7e\x7f\x80\xa0\xff"),
         1 => prng.from(33, 126) as u8,
         _ => prng.next() as u8,
     }

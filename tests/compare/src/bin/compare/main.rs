@@ -7,6 +7,7 @@ mod comparison;
 mod constraint;
 mod damage;
 mod draft;
+mod exponents;
 mod grow;
 mod lent;
 mod limits;

@@ -4,6 +4,7 @@ use plain::certificate::{Claim, Direction, Left, Multiplier, Reason, Sense, Term
 use plain::fraction::Fraction;
 
 use crate::draft::{Draft, Row};
+use crate::exponents;
 use crate::prng::Prng;
 
 #[derive(Clone, Copy, Debug, PartialEq, Eq)]
@@ -175,8 +176,13 @@ fn plain_value(value: Fraction) -> String {
     }
 }
 
-/// Another spelling of the same value, within 18 digits.
+/// Another spelling of the same value, within 18 digits; a fifth of them with an exponent, where the value allows it.
 fn odd_value(value: Fraction, prng: &mut Prng) -> String {
+    if prng.chance(20) {
+        if let Some(spelled) = exponents::spelled(value, prng) {
+            return spelled;
+        }
+    }
     let sign = if value.num() < 0 || value.num() == 0 && prng.chance(20) { "-" } else { "" };
     let (num, den) = (value.num().unsigned_abs() as u64, value.den() as u64);
     let mut zeros = || "0".repeat(if prng.chance(50) { prng.below(4) } else { 0 });
