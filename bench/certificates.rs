@@ -31,6 +31,7 @@ pub fn to_read() -> Vec<Case> {
         Case { name: "many long names", text: names("constraint_") },
         Case { name: "long lists", text: long_lists() },
         Case { name: "wide values", text: wide_values() },
+        Case { name: "exponents", text: exponents() },
     ]
 }
 
@@ -275,15 +276,37 @@ fn long_lists() -> Vec<u8> {
     filled(format!("{text}DER {count}\n{derived}"))
 }
 
-/// Rows of 64 terms with decimals and quotients of many digits.
+/// Decimals and quotients of many digits.
 fn wide_values() -> Vec<u8> {
-    const TERMS: usize = 64;
     let mut random = Random::new(4);
-    let mut value = || match random.between(0, 2) {
+    rows_of(|| match random.between(0, 2) {
         0 => format!("{}.{:06}", random.between(-2_000, 2_000), random.between(0, 999_999)),
         1 => spelled(random.sign() * random.between(1, 2_147_483_647), random.between(1, 2_147_483_647)),
         _ => random.between(-2_147_483_647, 2_147_483_647).to_string(),
-    };
+    })
+}
+
+/// One digit before the point, one to five after it, and an exponent: `1.5E-7`, `-2.25e+03`. x is -9 or more, and magnitudes
+/// are below 10^9, so that all are taken.
+fn exponents() -> Vec<u8> {
+    let mut random = Random::new(5);
+    rows_of(|| {
+        let places = random.between(1, 5);
+        let sign = if random.between(0, 3) == 0 { "-" } else { "" };
+        let (whole, decimals) = (random.between(1, 9), random.between(0, 10i64.pow(places as u32) - 1));
+        let number = format!("{sign}{whole}.{decimals:0width$}", width = places as usize);
+        let exponent = random.between(places - 9, 8);
+        if random.between(0, 1) == 0 {
+            format!("{number}E{exponent}")
+        } else {
+            format!("{number}e{exponent:+03}")
+        }
+    })
+}
+
+/// Rows of 64 terms with the values that are made.
+fn rows_of(mut value: impl FnMut() -> String) -> Vec<u8> {
+    const TERMS: usize = 64;
     let mut rows = String::new();
     let mut count = 0;
     let head = format!("VER 1.0\nVAR {TERMS}{}\nINT 0\nOBJ min 0\nCON ", " x".repeat(TERMS));
