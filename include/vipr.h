@@ -53,7 +53,11 @@ extern "C" {
 #define VIPR_VALUE_CELLS 16384
 #define VIPR_ROW_CELLS 4352
 
-/* num/den = the value that a token spells, in lowest terms, den > 0. Returns 0, 4 or 7; with 4 and 7 nothing is stored. */
+/* num/den = the value that a token spells, in lowest terms, den > 0. Returns 0, 4 or 7; with 4 and 7 nothing is stored.
+ * A value is an optional `-` and digits; then nothing, or `.` and digits, or `/` and digits not all zero. A whole or decimal value
+ * may end in `E` or `e`, an optional sign and digits. Anything else is 4. 7 if in lowest terms num or den is above 2,147,483,647,
+ * or more than 18 digits count; with an exponent also if the power of ten that its digits without the zeros on both sides are
+ * multiplied by is outside -18 to 18. */
 uint8_t vipr_read_value(const uint8_t *token, size_t length, int32_t *num, int32_t *den);
 
 /* Reads a text into the tables. Returns 0 or 1 to 8. */
