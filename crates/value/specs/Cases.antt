@@ -75,8 +75,9 @@ cases =
     -- "x outside -18 to 18": here x is -18, and then -19
     ∷ reads "298023223876953125E-18" (gives (pos 78125 over pos 262144))
     ∷ reads "29802322387695312.5E-18" (refuses 7)
-    -- "N over 18 digits"
-    ∷ reads "1000000000000000001E-18" (refuses 7)
+    -- "N over 18 digits": here N has 18, and then 19, though x is -18 and the number, 819200001/819200000, is within the limit
+    ∷ reads "999999998779296875E-18" (gives (pos 819199999 over pos 819200000))
+    ∷ reads "1000000001220703125E-18" (refuses 7)
     -- "a result too wide"
     ∷ reads "2.147483647E9" (gives (pos 2147483647 over pos 1))
     ∷ reads "2.147483648E9" (refuses 7)
@@ -85,4 +86,4 @@ cases =
 pub cases-hold : All cases
 unfolding readValue outcomeOf narrowed quotientOf isDigit lowest floorZ ceilingZ isFraction within onFractions gcd euclid
 cases-hold =
-    (refl, (refl, (refl, (refl, (refl, (refl, (refl, (refl, (refl, (refl, (refl, (refl, (refl, (refl, (refl, (refl, (refl, (refl, (refl, (refl, (refl, (refl, tt))))))))))))))))))))))
+    (refl, (refl, (refl, (refl, (refl, (refl, (refl, (refl, (refl, (refl, (refl, (refl, (refl, (refl, (refl, (refl, (refl, (refl, (refl, (refl, (refl, (refl, (refl, tt)))))))))))))))))))))))
