@@ -1,9 +1,10 @@
--- The cases of document 01, "Numbers on either side", that are marked P, and cases on either side of the exponents of document
--- 02, request 1: one list, under one statement, `cases-hold`. Each is held to the definitions that the contracts cite. The
--- document's other cases are run (crates value_cases, fraction_cases).
+-- The cases of document 01, "Numbers on either side", that are marked P, and cases on either side of the exponents and of the
+-- powers of ten of document 02, requests 1 and 6: one list, under one statement, `cases-hold`. Each is held to the definitions
+-- that the contracts cite. The document's other cases are run (crates value_cases, fraction_cases).
 -- Assumes nothing.
 use mathlib.Core.Path.{_≡_, refl}
 use mathlib.Core.List.{List, [], _∷_}
+use Prim.Native.Nat.{ℕ}
 use Prim.Native.String.{String}
 use lib.IntN.{ℤ, pos, negℤ}
 use Rattle.integers.specs.Gcd.{gcd, euclid}
@@ -15,23 +16,26 @@ use Rattle.fraction.specs.Fraction.{isFraction, within, onFractions, productOf,
 use Rattle.fraction.specs.declared.Fraction.{Fraction}
 use Rattle.value.specs.Spelling.{quotientOf}
 use Rattle.value.specs.Reading.{narrowed, outcomeOf, readValue}
+use Rattle.value.specs.Promise.{powerOfTen}
 
 infix 5 _over_
 abbrev pub _over_ : ℤ → ℤ → Fraction
 n over d = record { num = n; den = d }
 
--- an operation on given operands, with the outcome that 01 states
+-- an operation on given operands, with the outcome that 01 states, or a power of ten that 02 states
 pub data Case : Type 0 where
   reads : String → Outcome Fraction → Case
   floors : Fraction → Outcome ℤ → Case
   ceilings : Fraction → Outcome ℤ → Case
   products : Fraction → Fraction → Outcome Fraction → Case
+  powers : ℕ → ℕ → Case
 
 abbrev pub Holds : Case → Type 0
 Holds (reads token o) = readValue (ascii token) ≡ o
 Holds (floors f o) = floorOf f ≡ o
 Holds (ceilings f o) = ceilingOf f ≡ o
 Holds (products f g o) = productOf f g ≡ o
+Holds (powers k p) = powerOfTen k ≡ p
 
 abbrev pub All : List Case → Type 0
 All [] = Unit {0}
@@ -81,9 +85,16 @@ cases =
     -- "a result too wide"
     ∷ reads "2.147483647E9" (gives (pos 2147483647 over pos 1))
     ∷ reads "2.147483648E9" (refuses 7)
+    -- 02, request 6: "exactly ten to the power for 0 to 18"
+    ∷ powers 0 1
+    ∷ powers 1 10
+    ∷ powers 18 1000000000000000000
+    -- "and 0 for any number above"
+    ∷ powers 19 0
+    ∷ powers 18446744073709551615 0
     ∷ []
 
 pub cases-hold : All cases
-unfolding readValue outcomeOf narrowed quotientOf isDigit lowest floorZ ceilingZ isFraction within onFractions gcd euclid
+unfolding readValue outcomeOf narrowed quotientOf isDigit lowest floorZ ceilingZ isFraction within onFractions gcd euclid powerOfTen
 cases-hold =
-    (refl, (refl, (refl, (refl, (refl, (refl, (refl, (refl, (refl, (refl, (refl, (refl, (refl, (refl, (refl, (refl, (refl, (refl, (refl, (refl, (refl, (refl, (refl, tt)))))))))))))))))))))))
+    (refl, (refl, (refl, (refl, (refl, (refl, (refl, (refl, (refl, (refl, (refl, (refl, (refl, (refl, (refl, (refl, (refl, (refl, (refl, (refl, (refl, (refl, (refl, (refl, (refl, (refl, (refl, (refl, tt))))))))))))))))))))))))))))

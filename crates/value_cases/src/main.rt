@@ -1,5 +1,5 @@
 // Runs Read one value on the lines of standard input, on tokens that no line can hold and on long ones. Writes a line for
-// each: the token or its description, then the fraction or the refusal.
+// each: the token or its description, then the fraction or the refusal. Then works out powers of ten, a line each.
 ghost use Prim.Native.Nat.{_≤_};
 use fraction::Fraction;
 use value::ValueAnswer;
@@ -197,6 +197,33 @@ fn long_exponent() {
     case(b"0E+1, 3,996 zeros, then x", &t);
 }
 
+// The power of ten for a number, under that number.
+fn power(k: usize) {
+    put(b"10 to the power ");
+    io::print_decimal(1, k as u64);
+    put(b" is ");
+    io::print_decimal(1, value::power_of_ten(k));
+    put(b"\n");
+}
+
+// The powers for 0 to 20.
+fn first_powers() {
+    let mut k = 0;
+    while k <= 20 {
+        power(k);
+        k += 1;
+    }
+}
+
+// The powers for numbers further above: those whose low bits are 0 or 18, and the greatest.
+fn powers_above() {
+    power(256);
+    power(274);
+    power(4294967296);
+    power(4294967314);
+    power(18446744073709551615);
+}
+
 fn main() {
     let mut input = io::large_buffer();
     let n = io::read_full(0, &mut input);
@@ -208,4 +235,6 @@ fn main() {
     long_significand();
     long_decimals();
     long_exponent();
+    first_powers();
+    powers_above();
 }
