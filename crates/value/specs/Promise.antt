@@ -35,6 +35,6 @@ valueSays (Value f) = gives f
 valueSays NotAValue = refuses 4
 valueSays TooWide = refuses 7
 
--- exactly ten to the power for 0 to 18, and 0 for any number above
+-- 02, request 6: "exactly ten to the power for 0 to 18, and 0 for any number above"
 unfoldable pub powerOfTen : ℕ → ℕ
 powerOfTen k = cond (leb k 18) (10 ^ k) 0
