@@ -328,8 +328,6 @@ static int are_adjacent(const constraint *c, const constraint *d)
 
 static int is_split(size_t first, size_t second)
 {
-    if (!is_assumption(first) || !is_assumption(second))
-        return 0;
     constraint c, d;
     constraint_of(&c, first);
     constraint_of(&d, second);

@@ -15,8 +15,7 @@ use Rattle.grammar.specs.Tree.{Multiplier, Reason, asm, lin, rnd, uns, sol, Tre
 use Rattle.grammar.specs.Certificate.{isAssumption}
 use Rattle.rules.specs.Tests.{Decides}
 use Rattle.rules.specs.Rows.{derivedRow, entryAt}
-use Rattle.rules.specs.Splits.{assumed}
-use Rattle.rules.specs.Assumptions.{assumptionsOf, isEmpty}
+use Rattle.rules.specs.Assumptions.{assumed, assumptionsOf, isEmpty}
 use Rattle.sets.specs.Sets.{bit, one}
 use Rattle.sets.specs.SetsLaws.{bit-zero}
 use Rattle.sets.specs.Course.{unionBit, withoutBit, reasonBit, union-start, union-on, union-end, Stand, stand-next, stand-end}

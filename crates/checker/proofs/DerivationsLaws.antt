@@ -2,7 +2,7 @@
 -- finds them.
 -- Assumes nothing.
 use mathlib.Core.Path.{_≡_, refl, sym, _∙_, ap, subst}
-use mathlib.Core.Bool.{Bool, true, false, not, cond, _&&_, _||_}
+use mathlib.Core.Bool.{Bool, true, false, not, cond, _||_}
 use mathlib.Core.List.{List, [], _∷_, map}
 use mathlib.Core.Logic.{_⊎_, inl, inr, ⊎-elim}
 use mathlib.Core.Option.{none, some}
@@ -32,7 +32,8 @@ use Rattle.rules.specs.Combinations.{suitableCombination}
 use Rattle.rules.specs.CombinationsLaws.{combines-fraction, gives-suitable}
 use Rattle.rules.specs.Rounding.{canBeRounded, rounded}
 use Rattle.rules.specs.Derivations.{isPast, named, isSpent, checkDominates, checkLin, checkRnd, checkUns, checkSol, checkReason, checkDerivation}
-use Rattle.rules.specs.Splits.{assumed, isProperSplit}
+use Rattle.rules.specs.Splits.{isProperSplit}
+use Rattle.rules.specs.Assumptions.{assumed}
 use Rattle.rules.specs.Solutions.{towards, bestOf}
 use Rattle.constraint.specs.Meaning.{senseIs, coefficientsOf, meant, VariablesAre}
 use Rattle.constraint.specs.declared.Constraint as declared
@@ -140,15 +141,6 @@ module _ {tree : Tree} {index : List ℕ} {values : List ℤ} {rows : List ℕ} 
       word (rnd ms) = refl
       word (uns u) = refl
       word sol = refl
-
--- ---- tests that calls answered with r, and what is tested next
-
-module _ {r a : Bool} (b : Bool) (e : r ≡ a) where
-  pub and-yes : r ≡ true → b ≡ a && b
-  and-yes t = ap (λ (x : Bool). x && b) (sym t ∙ e)
-
-  pub and-no : r ≡ false → false ≡ a && b
-  and-no t = ap (λ (x : Bool). x && b) (sym t ∙ e)
 
 -- ---- first refusals
 

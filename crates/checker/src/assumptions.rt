@@ -6,14 +6,26 @@ ghost use lib.IntN.{ℤ};
 ghost use lib.ListN.{getD};
 ghost use Rattle.grammar.specs.Tree.{Tree};
 ghost use Rattle.rules.specs.Tests.{Decides};
-ghost use Rattle.rules.specs.Assumptions.{assumptionsOf, isEmpty};
+ghost use Rattle.rules.specs.Rows.{entryAt};
+ghost use Rattle.rules.specs.Assumptions.{assumed, assumptionsOf, isEmpty};
 ghost use Rattle.sets.specs.Sets.{bit};
 ghost use Rattle.sets.specs.Course.{unionBit, withoutBit, reasonBit};
 ghost use Rattle.checker.specs.Tables.{cellsAt, NamedBelow};
 ghost use Rattle.checker.specs.Held.{derivationAt, Stands, Found};
-use crate::derivations;
 use crate::tables;
 use crate::tables::Frame;
+
+// Whether row r is an `asm` row.
+fn is_assumption(index: &[u16], rows: &[u16], frame: Frame, r: usize) -> bool
+    requires { ⌜ Found frame (now index) (now rows) × (r < frame .given + frame .derived) ⌝ }
+    ensures { λ b. ⌜ ((tree : Tree) (values : List ℤ) → Stands tree frame (now (index .entry)) values (now (rows .entry)) → b ≡ assumed (entryAt tree r)) ⌝ }
+{
+    if r < frame.given {
+        return false;
+    }
+    let cell = tables::reason_at(index, rows, r);
+    index[cell] == 0
+}
 
 // The union of the sets of the rows that stand in so many cells.
 fn union_of(index: &[u16], all: &[u64; 1024], cell: usize, count: usize) -> u64
@@ -32,14 +44,15 @@ fn union_of(index: &[u16], all: &[u64; 1024], cell: usize, count: usize) -> u64
     union
 }
 
-// The set of row i without row l, where i and l stand in this cell and the next: only an assumption can be in a set.
+// The set of row i without row l, where i and l stand in this cell and the next. A row that is no `asm` row is in no set, and
+// nothing is removed.
 fn without_row(index: &[u16], rows: &[u16], frame: Frame, all: &[u64; 1024], cell: usize) -> u64
     requires { ⌜ Found frame (now index) (now rows) × NamedBelow (now index) (frame .given + frame .derived) cell 2 ⌝ }
     ensures { λ s. ⌜ ((tree : Tree) (values : List ℤ) → Stands tree frame (now (index .entry)) values (now (rows .entry)) → (j : ℕ) → bit s j ≡ withoutBit tree (now (all .entry)) (getD (now (index .entry)) cell 0) (getD (now (index .entry)) (cell + 1) 0) j) ⌝ }
 {
     let i = index[cell] as usize;
     let l = index[cell + 1] as usize;
-    if derivations::is_assumption(index, rows, frame, l) {
+    if is_assumption(index, rows, frame, l) {
         sets::without(all[i], all[l])
     } else {
         all[i]
@@ -88,7 +101,7 @@ pub(crate) fn sets_of(index: &[u16], rows: &[u16], frame: Frame) -> [u64; 1024]
     while k < derived {
         let set = set_of(index, rows, frame, &all, k, assumed);
         all[given + k] = set;
-        if derivations::is_assumption(index, rows, frame, given + k) {
+        if is_assumption(index, rows, frame, given + k) {
             assumed += 1;
         }
         k += 1;

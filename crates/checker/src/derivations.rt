@@ -12,7 +12,7 @@ ghost use Rattle.rules.specs.Rows.{objective, objectiveWith, entryAt, rowAt};
 ghost use Rattle.rules.specs.Solutions.{bestOf};
 ghost use Rattle.rules.specs.Combinations.{suitableCombination};
 ghost use Rattle.rules.specs.Derivations.{isSpent, named, checkDominates, checkLin, checkRnd, checkUns, checkSol, checkReason, checkDerivation};
-ghost use Rattle.rules.specs.Splits.{assumed, isProperSplit};
+ghost use Rattle.rules.specs.Splits.{isProperSplit};
 ghost use Rattle.constraint.specs.Meaning.{senseIs, meant, VariablesAre};
 ghost use Rattle.checker.specs.Tables.{cellsAt, NamedBelow, termsAt, multipliersAt, Listed, reasonAt};
 ghost use Rattle.checker.specs.Held.{cellOf, multipliersOf, UnsplitStands, UnsplitIsThere, derivationAt, Stands, Standing, Found};
@@ -163,19 +163,7 @@ fn check_rnd(
     check_dominates(index, values, rows, frame, own, by)
 }
 
-// Whether row r is an `asm` row.
-pub(crate) fn is_assumption(index: &[u16], rows: &[u16], frame: Frame, r: usize) -> bool
-    requires { ⌜ Found frame (now index) (now rows) × (r < frame .given + frame .derived) ⌝ }
-    ensures { λ b. ⌜ ((tree : Tree) (values : List ℤ) → Stands tree frame (now (index .entry)) values (now (rows .entry)) → b ≡ assumed (entryAt tree r)) ⌝ }
-{
-    if r < frame.given {
-        return false;
-    }
-    let cell = tables::reason_at(index, rows, r);
-    index[cell] == 0
-}
-
-// Whether rows l1 and l2 are a proper split.
+// Whether rows l1 and l2 are a proper split, given or derived.
 fn is_proper_split(
     index: &[u16],
     values: &[i32],
@@ -188,12 +176,6 @@ fn is_proper_split(
     requires { ⌜ Standing frame (now index) (now values) (now rows) × (first < frame .given + frame .derived) × (second < frame .given + frame .derived) ⌝ }
     ensures { λ b. ⌜ ((tree : Tree) → Stands tree frame (now (index .entry)) (now (values .entry)) (now (rows .entry)) → VariablesAre tree (frame .variables) integers → b ≡ isProperSplit tree first second) ⌝ }
 {
-    if !is_assumption(index, rows, frame, first) {
-        return false;
-    }
-    if !is_assumption(index, rows, frame, second) {
-        return false;
-    }
     let objective = frame.objective;
     let c = tables::constraint_at(index, values, rows, objective, first);
     let d = tables::constraint_at(index, values, rows, objective, second);

@@ -10,11 +10,25 @@ use borrow.Author.Tests.{ltb-true, ltb-false, eqb-true, eqb-false}
 use lib.Dec.{ltb, eqb}
 use lib.ListN.{length, getD, length-map, length-append, List·getD-append, List·getD-eq-default, List·getD-map}
 use lib.Seq.{getD-append-seam, append-snoc}
+use Rattle.grammar.specs.Certificate.{isAssumption}
 use Rattle.grammar.specs.Tree.{Row, Multiplier, Reason, asm, lin, rnd, uns, sol, Derivation, Tree}
 use Rattle.rules.specs.Tests.{Decides, In, not-true, decides-as}
 use Rattle.rules.specs.Rows.{Entry, givenRow, derivedRow, noRow, entries, entryAt}
 use Rattle.rules.specs.RowsLaws.{entry-given, entry-next, entry-beyond}
-use Rattle.rules.specs.Assumptions.{HasReason, Assumes, itself, by-lin, by-rnd, by-first, by-second, NoAssumptions, without, unionOf, setFor, setsFrom, setsOf, assumptionsOf, isEmpty}
+use Rattle.rules.specs.Assumptions.{IsAssumption, assumed, HasReason, Assumes, itself, by-lin, by-rnd, by-first, by-second, NoAssumptions, without, unionOf, setFor, setsFrom, setsOf, assumptionsOf, isEmpty}
+
+-- ---- `asm` rows
+
+decides-assumption : (why : Reason) → Decides (isAssumption why) (why ≡ asm)
+decides-assumption asm = ((λ e. refl), λ e. refl)
+decides-assumption (lin ms) = ((λ e. not-true e), λ e. absurd (let z : _≡_ {A = ℕ} 0 1 = cc in omega arith))
+decides-assumption (rnd ms) = ((λ e. not-true e), λ e. absurd (let z : _≡_ {A = ℕ} 0 1 = cc in omega arith))
+decides-assumption (uns u) = ((λ e. not-true e), λ e. absurd (let z : _≡_ {A = ℕ} 0 1 = cc in omega arith))
+decides-assumption sol = ((λ e. not-true e), λ e. absurd (let z : _≡_ {A = ℕ} 0 1 = cc in omega arith))
+
+pub decides-assumed : (e : Entry) → Decides (assumed e) (IsAssumption e)
+decides-assumed (givenRow row) = ((λ e. not-true e), λ h. absurd h)
+decides-assumed (derivedRow d) = decides-assumption (d .reason)
 
 -- ---- membership
 
@@ -39,6 +53,15 @@ in-without a l (i ∷ s) = go (eqb i l) refl (in-without a l s)
       (λ h. ⊎-elim (λ q. (inl q, λ p. eqb-false i l e (q ∙ sym p))) (λ k. let z = r .0 k in (inr (z .0), z .1)) h),
       λ h. ⊎-elim (λ q. inl q) (λ k. inr (r .1 (k, h .1))) (h .0),
     )
+
+-- without a row that is not in it, a set is what it was
+without-stranger : (l : ℕ) (s : List ℕ) → (In l s → ⊥) → without l s ≡ s
+without-stranger l [] none = refl
+without-stranger l (i ∷ s) none = go (eqb i l) refl (without-stranger l s (λ h. none (inr h)))
+  where
+    go : (t : Bool) → eqb i l ≡ t → without l s ≡ s → cond t (without l s) (i ∷ without l s) ≡ i ∷ s
+    go true e r = absurd (none (inl (eqb-true i l e)))
+    go false e r = ap (λ (rest : List ℕ). i ∷ rest) r
 
 pub in-union : (a : ℕ) (sets : List (List ℕ)) (ms : List Multiplier) → In a (unionOf sets ms) ↔ ((m : Multiplier) × In m ms × In a (getD sets (m .row) []))
 in-union a sets [] = ((λ h. absurd h), λ h. absurd (h .1))
@@ -94,6 +117,14 @@ module _ (tree : Tree) (a : ℕ) where
   has-reason (by-rnd ms m r k l s) = (rnd ms, r)
   has-reason (by-first u r l s n) = (uns u, r)
   has-reason (by-second u r l s n) = (uns u, r)
+
+  -- each is an `asm` row
+  pub only-assumptions : {i : ℕ} → Assumes tree a i → IsAssumption (entryAt tree a)
+  only-assumptions (itself r e) = subst (λ (j : ℕ). IsAssumption (entryAt tree j)) e (subst IsAssumption (sym (r .1)) (r .2))
+  only-assumptions (by-lin ms m r k l s) = only-assumptions s
+  only-assumptions (by-rnd ms m r k l s) = only-assumptions s
+  only-assumptions (by-first u r l s n) = only-assumptions s
+  only-assumptions (by-second u r l s n) = only-assumptions s
 
   -- a given row has none
   none-given : (i : ℕ) (row : Row) → entryAt tree i ≡ givenRow row → Assumes tree a i → ⊥
@@ -194,6 +225,10 @@ module _ (tree : Tree) where
         (λ k. absurd (subst (In a) (List·getD-map (λ (row : Row). []) rows i noRow) k)),
         λ s. absurd (none-given tree a i (getD rows i noRow) (entry-given tree i (rw (length-map rows (λ (row : Row). [])) at h)) s),
       )
+
+  -- removing a row that is no `asm` row from the set of a row removes nothing
+  pub without-no-assumption : (i l : ℕ) → (IsAssumption (entryAt tree l) → ⊥) → without l (assumptionsOf tree i) ≡ assumptionsOf tree i
+  without-no-assumption i l none = without-stranger l (assumptionsOf tree i) (λ h. none (only-assumptions tree l (assumptions-are i l .0 h)))
 
   pub decides-no-assumptions : (i : ℕ) → Decides (isEmpty (assumptionsOf tree i)) (NoAssumptions tree i)
   decides-no-assumptions i =

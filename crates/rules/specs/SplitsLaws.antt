@@ -1,31 +1,18 @@
 -- The tests of `Splits` decide its words.
 -- Assumes nothing.
-use mathlib.Core.Path.{_≡_, refl, sym, _∙_, ap}
+use mathlib.Core.Path.{_≡_, sym, _∙_, ap}
 use Prim.Native.Nat.{ℕ}
-use native.Mathlib.Omega.{arith}
 use lib.IntN.{pos, _+ℤ_}
 use Rattle.fraction.specs.declared.Fraction.{Fraction}
-use Rattle.grammar.specs.Tree.{atMost, atLeast, Reason, asm, lin, rnd, uns, sol, Tree}
-use Rattle.grammar.specs.Certificate.{isAssumption}
-use Rattle.rules.specs.Tests.{Decides, not-true, decides-as, decides-and, decides-or}
+use Rattle.grammar.specs.Tree.{atMost, atLeast, Tree}
+use Rattle.rules.specs.Tests.{Decides, decides-as, decides-and, decides-or}
 use Rattle.rules.specs.Values.{wholeF, Whole}
 use Rattle.rules.specs.ValuesLaws.{decides-same-integer, decides-whole}
-use Rattle.rules.specs.Rows.{variables, Constraint, constraintOf, Entry, givenRow, derivedRow, rowOf, entryAt}
+use Rattle.rules.specs.Rows.{variables, Constraint, constraintOf, rowOf, entryAt}
 use Rattle.rules.specs.RowsLaws.{decides-sense}
 use Rattle.rules.specs.DominationLaws.{decides-same-coefficients}
 use Rattle.rules.specs.RoundingLaws.{decides-integral}
-use Rattle.rules.specs.Splits.{IsAssumption, assumed, Adjacent, areAdjacent, Split, isSplit, ProperSplit, isProperSplit}
-
-decides-assumption : (why : Reason) → Decides (isAssumption why) (why ≡ asm)
-decides-assumption asm = ((λ e. refl), λ e. refl)
-decides-assumption (lin ms) = ((λ e. not-true e), λ e. absurd (let z : _≡_ {A = ℕ} 0 1 = cc in omega arith))
-decides-assumption (rnd ms) = ((λ e. not-true e), λ e. absurd (let z : _≡_ {A = ℕ} 0 1 = cc in omega arith))
-decides-assumption (uns u) = ((λ e. not-true e), λ e. absurd (let z : _≡_ {A = ℕ} 0 1 = cc in omega arith))
-decides-assumption sol = ((λ e. not-true e), λ e. absurd (let z : _≡_ {A = ℕ} 0 1 = cc in omega arith))
-
-pub decides-assumed : (e : Entry) → Decides (assumed e) (IsAssumption e)
-decides-assumed (givenRow row) = ((λ e. not-true e), λ h. absurd h)
-decides-assumed (derivedRow d) = decides-assumption (d .reason)
+use Rattle.rules.specs.Splits.{Adjacent, areAdjacent, Split, isSplit, ProperSplit, isProperSplit}
 
 -- ---- β and β + 1
 
@@ -66,6 +53,5 @@ decides-split tree c d =
 pub decides-proper-split : (tree : Tree) (l1 l2 : ℕ) → Decides (isProperSplit tree l1 l2) (ProperSplit tree l1 l2)
 unfolding isProperSplit
 decides-proper-split tree l1 l2 =
-    decides-as (λ h. record { assumptions = h .0; split = h .1 }) (λ h. (h .assumptions, h .split))
-    (decides-and _ _ (decides-and _ _ (decides-assumed (entryAt tree l1)) (decides-assumed (entryAt tree l2)))
-    (decides-split tree (constraintOf tree (rowOf (entryAt tree l1))) (constraintOf tree (rowOf (entryAt tree l2)))))
+    decides-as (λ h. record { split = h }) (λ h. h .split)
+    (decides-split tree (constraintOf tree (rowOf (entryAt tree l1))) (constraintOf tree (rowOf (entryAt tree l2))))

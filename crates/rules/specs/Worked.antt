@@ -1,5 +1,5 @@
--- Worked cases: certificates as texts, and the answers that document 01 gives them, by reading and then checking, in one list
--- under one statement. 01's words stand beside each, "would be an error" at its "Errors that look reasonable".
+-- Worked cases: certificates as texts, and the answers that documents 01 and 02 give them, by reading and then checking, in one
+-- list under one statement. Their words stand beside each, "would be an error" at 01's "Errors that look reasonable".
 -- Assumes nothing.
 use mathlib.Core.Path.{_≡_, refl}
 use mathlib.Core.List.{List, [], _∷_, _++_, map}
@@ -141,6 +141,8 @@ cases =
     ∷ refuses 11 9 (oneInteger "OBJ min 1 0 1\nCON 2 0 R1 G 1 1 0 1 R2 L 3 1 0 1\nRTP range 1 inf\nSOL 0\nDER 2 D1 G 1 1 0 1 { lin 1 0 1 } 0\nD2 G 1 1 0 1 { lin 3 0 1 1 1 2 0 } -1\n")
     -- of `uns` all four rows are named: here l2 is spent
     ∷ refuses 11 12 (oneInteger "OBJ min 0\nCON 2 0 R1 G 1 1 0 2 R2 L 1 1 0 2\nRTP infeas\nSOL 0\nDER 5 A1 L 0 1 0 1 { asm } -1\nA2 G 1 1 0 1 { asm } 5\nD1 G 1 0 { lin 2 0 1 2 -2 } -1\nD2 L -1 0 { lin 2 1 1 3 -2 } -1\nD3 G 1 0 { uns 4 2 5 3 } -1\n")
+    -- a spent l row that is no `asm` row is 11 too: a `lin` row past its last index
+    ∷ refuses 11 13 (oneInteger "OBJ min 0\nCON 2 0 R1 L 0 1 0 2 R2 G 1 1 0 2\nRTP infeas\nSOL 0\nDER 5\nL1 L 0 1 0 1 { lin 1 0 1/2 } 5\nA1 G 1 1 0 1 { asm } -1\nD1 G 1 0 { lin 2 1 1 2 -2 } -1\nD2 G 1 0 { lin 2 3 1 2 -1 } -1\nD3 G 1 0 { uns 4 2 5 3 } -1\n")
     -- ---- lin
     -- "sign rule of 000, else 13": x ≥ 1 and x ≤ 3, both times 1
     ∷ refuses 13 9 (oneInteger "OBJ min 1 0 1\nCON 2 0 R1 G 1 1 0 1 R2 L 3 1 0 1\nRTP range 1 inf\nSOL 0\nDER 1\nD1 G 4 1 0 2 { lin 2 0 1 1 1 } -1\n")
@@ -213,8 +215,6 @@ cases =
     ∷ verifies (oneInteger "OBJ min 0\nCON 2 0 R1 G 1 1 0 2 R2 L 1 1 0 2\nRTP infeas\nSOL 0\nDER 5\nA1 L 0 1 0 1 { asm } -1\nA2 G 1 1 0 1 { asm } -1\nD1 G 1 0 { lin 2 0 1 2 -2 } -1\nD2 L -1 0 { lin 2 1 1 3 -2 } -1\nD3 G 1 0 { uns 5 3 4 2 } -1\n")
     -- only the sets pair i1 with l1: a proper split, and both assumptions are kept
     ∷ refuses 17 13 (oneInteger "OBJ min 0\nCON 2 0 R1 G 1 1 0 2 R2 L 1 1 0 2\nRTP infeas\nSOL 0\nDER 5\nA1 L 0 1 0 1 { asm } -1\nA2 G 1 1 0 1 { asm } -1\nD1 G 1 0 { lin 2 0 1 2 -2 } -1\nD2 L -1 0 { lin 2 1 1 3 -2 } -1\nD3 G 1 0 { uns 4 3 5 2 } -1\n")
-    -- "both l rows are `asm` rows": x ≥ 1 by rounding is none
-    ∷ refuses 16 13 (oneInteger "OBJ min 0\nCON 2 0 R1 G 1 1 0 2 R2 L 1 1 0 2\nRTP infeas\nSOL 0\nDER 5\nA1 L 0 1 0 1 { asm } -1\nA2 G 1 1 0 1 { rnd 1 0 1/2 } -1\nD1 G 1 0 { lin 2 0 1 2 -2 } -1\nD2 L -1 0 { lin 2 1 1 3 -2 } -1\nD3 G 1 0 { uns 4 2 5 3 } -1\n")
     -- "exactly β + 1", not β + 2
     ∷ refuses 16 13 (oneInteger "OBJ min 0\nCON 2 0 R1 G 1 1 0 2 R2 L 1 1 0 2\nRTP infeas\nSOL 0\nDER 5\nA1 L 0 1 0 1 { asm } -1\nA2 G 2 1 0 1 { asm } -1\nD1 G 1 0 { lin 2 0 1 2 -2 } -1\nD2 L -1 0 { lin 2 1 1 3 -2 } -1\nD3 G 1 0 { uns 4 2 5 3 } -1\n")
     -- nor β
@@ -239,6 +239,46 @@ cases =
     ∷ refuses 15 13 (oneInteger "OBJ min 0\nCON 2 0 R1 G 1 1 0 2 R2 L 1 1 0 2\nRTP infeas\nSOL 0\nDER 5\nA1 L 0 1 0 1 { asm } -1\nA2 G 1 1 0 1 { asm } -1\nD1 G 1 0 { lin 2 0 1 2 -2 } -1\nD2 L -1 0 { lin 2 1 1 3 -2 } -1\nD3 G 1 0 { uns 0 2 5 3 } -1\n")
     -- an empty left side is allowed, 0 ≤ 0 against 0 ≥ 1; `uns` "may repeat"
     ∷ verifies (oneInteger "OBJ min 0\nCON 1 0 R1 G 1 0\nRTP infeas\nSOL 0\nDER 3\nA1 L 0 0 { asm } -1\nA2 G 1 0 { asm } -1\nD1 G 1 0 { uns 0 1 0 2 } -1\n")
+    -- ---- uns: 02, "Drop the condition that l rows are `asm` rows; the pair test stays"
+    -- l1 is a given row, x ≤ 0, and x ≥ 1 is assumed
+    ∷ verifies (oneInteger "OBJ min 0\nCON 2 0 R1 L 0 1 0 1 R2 G 1 1 0 2\nRTP infeas\nSOL 0\nDER 4\nA1 G 1 1 0 1 { asm } -1\nD1 G 1 0 { lin 2 1 1 0 -2 } -1\nD2 G 1 0 { lin 2 2 1 0 -1 } -1\nD3 G 1 0 { uns 3 0 4 2 } -1\n")
+    -- l1 is a `lin` row, x ≤ 0 from 2 x ≤ 0; it may be named at its last index
+    ∷ verifies (oneInteger "OBJ min 0\nCON 2 0 R1 L 0 1 0 2 R2 G 1 1 0 2\nRTP infeas\nSOL 0\nDER 5\nL1 L 0 1 0 1 { lin 1 0 1/2 } 6\nA1 G 1 1 0 1 { asm } -1\nD1 G 1 0 { lin 2 1 1 2 -2 } -1\nD2 G 1 0 { lin 2 3 1 2 -1 } -1\nD3 G 1 0 { uns 4 2 5 3 } -1\n")
+    -- l1 is a given row and l2 a `lin` row: no assumption at all
+    ∷ verifies (oneInteger "OBJ min 0\nCON 2 0 R1 L 0 1 0 1 R2 G 2 1 0 2\nRTP infeas\nSOL 0\nDER 3\nL2 G 1 1 0 1 { lin 1 1 1/2 } -1\nD1 G 1 0 { lin 2 2 1 0 -1 } -1\nD2 G 1 0 { uns 3 0 3 2 } -1\n")
+    -- l2 is a `rnd` row, x ≥ 1 from 2 x ≥ 1
+    ∷ verifies (oneInteger "OBJ min 0\nCON 2 0 R1 G 1 1 0 2 R2 L 1 1 0 2\nRTP infeas\nSOL 0\nDER 5\nA1 L 0 1 0 1 { asm } -1\nA2 G 1 1 0 1 { rnd 1 0 1/2 } -1\nD1 G 1 0 { lin 2 0 1 2 -2 } -1\nD2 L -1 0 { lin 2 1 1 3 -2 } -1\nD3 G 1 0 { uns 4 2 5 3 } -1\n")
+    -- l2 is a `sol` row, and both are OBJ rows: x ≤ 0 is assumed, x ≥ 1 as good as a solution
+    ∷ verifies (oneInteger "OBJ max 1 0 1\nCON 1 0 R1 L 3 1 0 2\nRTP range 1 1\nSOL 1 a 1 0 1\nDER 5\nA1 L 0 OBJ { asm } -1\nS1 G 1 OBJ { sol } -1\nD1 L 1 OBJ { lin 1 1 1 } -1\nD2 L 1 OBJ { rnd 1 0 1/2 } -1\nD3 L 1 OBJ { uns 3 1 4 2 } -1\n")
+    -- l2 is a `uns` row, x ≥ 1 under 0 ≤ 0 and under 0 ≥ 1
+    ∷ verifies (oneInteger "OBJ min 0\nCON 2 0 R1 L 0 1 0 1 R2 G 1 1 0 1\nRTP infeas\nSOL 0\nDER 5\nA1 L 0 0 { asm } -1\nA2 G 1 0 { asm } -1\nU1 G 1 1 0 1 { uns 1 2 1 3 } -1\nD1 G 1 0 { lin 2 4 1 0 -1 } -1\nD2 G 1 0 { uns 5 0 5 4 } -1\n")
+    -- l1 is an OBJ row, and the objective is x
+    ∷ verifies (oneInteger "OBJ min 1 0 1\nCON 2 0 R1 L 0 OBJ R2 G 1 1 0 2\nRTP infeas\nSOL 0\nDER 4\nA1 G 1 1 0 1 { asm } -1\nD1 G 1 0 { lin 2 1 1 0 -2 } -1\nD2 G 1 0 { lin 3 1 1 0 -2 2 0 } -1\nD3 G 1 0 { uns 3 0 4 2 } -1\n")
+    -- the objective is 2 x, and x is not: "coefficients equal"
+    ∷ refuses 16 12 (oneInteger "OBJ min 1 0 2\nCON 2 0 R1 L 0 OBJ R2 G 1 1 0 2\nRTP infeas\nSOL 0\nDER 4\nA1 G 1 1 0 1 { asm } -1\nD1 G 1 0 { lin 2 1 1 0 -1 } -1\nD2 G 1 0 { lin 3 1 1 0 -1 2 0 } -1\nD3 G 1 0 { uns 3 0 4 2 } -1\n")
+    -- l1 is l2: a row is no pair
+    ∷ refuses 16 12 (oneInteger "OBJ min 0\nCON 2 0 R1 L 0 1 0 1 R2 G 1 1 0 2\nRTP infeas\nSOL 0\nDER 4\nA1 G 1 1 0 1 { asm } -1\nD1 G 1 0 { lin 2 1 1 0 -2 } -1\nD2 G 1 0 { lin 3 1 1 0 -2 2 0 } -1\nD3 G 1 0 { uns 3 0 4 0 } -1\n")
+    ∷ refuses 16 12 (oneInteger "OBJ min 0\nCON 2 0 R1 L 0 1 0 1 R2 G 1 1 0 2\nRTP infeas\nSOL 0\nDER 4\nA1 G 1 1 0 1 { asm } -1\nD1 G 1 0 { lin 2 1 1 0 -2 } -1\nD2 G 1 0 { lin 3 1 1 0 -2 2 0 } -1\nD3 G 1 0 { uns 3 2 4 2 } -1\n")
+    -- the pair test stays: beside a given row x ≤ 0, x ≥ 2 is no other side
+    ∷ refuses 16 12 (oneInteger "OBJ min 0\nCON 2 0 R1 L 0 1 0 1 R2 G 1 1 0 2\nRTP infeas\nSOL 0\nDER 4\nA1 G 2 1 0 1 { asm } -1\nD1 G 1 0 { lin 2 1 1 0 -2 } -1\nD2 G 1 0 { lin 3 1 1 0 -2 2 0 } -1\nD3 G 1 0 { uns 3 0 4 2 } -1\n")
+    -- nor x ≥ 0
+    ∷ refuses 16 12 (oneInteger "OBJ min 0\nCON 2 0 R1 L 0 1 0 1 R2 G 1 1 0 2\nRTP infeas\nSOL 0\nDER 4\nA1 G 0 1 0 1 { asm } -1\nD1 G 1 0 { lin 2 1 1 0 -2 } -1\nD2 G 1 0 { lin 3 1 1 0 -2 2 0 } -1\nD3 G 1 0 { uns 3 0 4 2 } -1\n")
+    -- beside a given row x ≥ 1, x ≤ 0 is
+    ∷ verifies (oneInteger "OBJ min 0\nCON 2 0 R1 G 1 1 0 1 R2 L 1 1 0 2\nRTP infeas\nSOL 0\nDER 4\nA1 L 0 1 0 1 { asm } -1\nD1 L -1 0 { lin 2 1 1 0 -2 } -1\nD2 L -1 0 { lin 3 1 1 0 -2 2 0 } -1\nD3 L -1 0 { uns 4 2 3 0 } -1\n")
+    -- and x ≤ -1 is not
+    ∷ refuses 16 12 (oneInteger "OBJ min 0\nCON 2 0 R1 G 1 1 0 1 R2 L 1 1 0 2\nRTP infeas\nSOL 0\nDER 4\nA1 L -1 1 0 1 { asm } -1\nD1 L -1 0 { lin 2 1 1 0 -2 } -1\nD2 L -1 0 { lin 3 1 1 0 -2 2 0 } -1\nD3 L -1 0 { uns 4 2 3 0 } -1\n")
+    -- nor x ≤ 1
+    ∷ refuses 16 12 (oneInteger "OBJ min 0\nCON 2 0 R1 G 1 1 0 1 R2 L 1 1 0 2\nRTP infeas\nSOL 0\nDER 4\nA1 L 1 1 0 1 { asm } -1\nD1 L -1 0 { lin 2 1 1 0 -2 } -1\nD2 L -1 0 { lin 3 1 1 0 -2 2 0 } -1\nD3 L -1 0 { uns 4 2 3 0 } -1\n")
+    -- A(i1) without l1, a given row, is A(i1): what i1 assumes stays
+    ∷ refuses 17 13 (oneInteger "OBJ min 0\nCON 2 0 R1 L 0 1 0 1 R2 G 1 1 0 2\nRTP infeas\nSOL 0\nDER 5\nA1 G 1 1 0 1 { asm } -1\nA2 L 5 1 0 1 { asm } -1\nD1 G 1 0 { lin 3 1 1 0 -2 3 0 } -1\nD2 G 1 0 { lin 2 2 1 0 -1 } -1\nD3 G 1 0 { uns 4 0 5 2 } -1\n")
+    -- and of A(i2) it is l2 alone that goes
+    ∷ refuses 17 13 (oneInteger "OBJ min 0\nCON 2 0 R1 L 0 1 0 1 R2 G 1 1 0 2\nRTP infeas\nSOL 0\nDER 5\nA1 G 1 1 0 1 { asm } -1\nA2 L 5 1 0 1 { asm } -1\nD1 G 1 0 { lin 2 1 1 0 -2 } -1\nD2 G 1 0 { lin 3 2 1 0 -1 3 0 } -1\nD3 G 1 0 { uns 4 0 5 2 } -1\n")
+    -- l2 goes from A(i2) only, and i1 assumes it too
+    ∷ refuses 17 11 (oneInteger "OBJ min 0\nCON 2 0 R1 L 0 1 0 1 R2 G 1 1 0 2\nRTP infeas\nSOL 0\nDER 3\nA1 G 1 1 0 1 { asm } -1\nD1 G 1 0 { lin 2 2 1 0 -1 } -1\nD2 G 1 0 { uns 3 0 3 2 } -1\n")
+    -- l1 is a `lin` row that assumes A1: it is no `asm` row, so nothing goes, and A1 stays
+    ∷ refuses 17 14 (oneInteger "OBJ min 0\nCON 2 0 R1 G 1 1 0 2 R2 L 1 1 0 2\nRTP infeas\nSOL 0\nDER 6\nA1 L 0 1 0 1 { asm } -1\nA2 G 1 1 0 1 { asm } -1\nL1 L 0 1 0 1 { lin 1 2 1 } -1\nD1 G 1 0 { lin 2 0 1 4 -2 } -1\nD2 L -1 0 { lin 2 1 1 3 -2 } -1\nD3 G 1 0 { uns 5 4 6 3 } -1\n")
+    -- until a later `uns` names A1 itself
+    ∷ verifies (oneInteger "OBJ min 0\nCON 2 0 R1 G 1 1 0 2 R2 L 1 1 0 2\nRTP infeas\nSOL 0\nDER 7\nA1 L 0 1 0 1 { asm } -1\nA2 G 1 1 0 1 { asm } -1\nL1 L 0 1 0 1 { lin 1 2 1 } -1\nD1 G 1 0 { lin 2 0 1 4 -2 } -1\nD2 L -1 0 { lin 2 1 1 3 -2 } -1\nD3 G 1 0 { uns 5 4 6 3 } -1\nD4 G 1 0 { uns 7 2 6 3 } -1\n")
     -- ---- sol
     -- "18": no solution is listed
     ∷ refuses 18 9 (oneInteger "OBJ min 1 0 1\nCON 0 0\nRTP range -inf inf\nSOL 0\nDER 1\nD1 L 1 OBJ { sol } -1\n")

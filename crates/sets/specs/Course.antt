@@ -17,9 +17,8 @@ use Rattle.grammar.specs.Ranges.{ReasonInRange, TreeInRange}
 use Rattle.rules.specs.Tests.{Decides, failed}
 use Rattle.rules.specs.Rows.{givenRow, derivedRow, noRow, entryAt}
 use Rattle.rules.specs.RowsLaws.{entry-given, entry-derived}
-use Rattle.rules.specs.Splits.{IsAssumption, assumed}
-use Rattle.rules.specs.SplitsLaws.{decides-assumed}
-use Rattle.rules.specs.Assumptions.{HasReason, without, unionOf, setFor, setsFrom, setsOf, assumptionsOf, isEmpty}
+use Rattle.rules.specs.Assumptions.{IsAssumption, assumed, HasReason, without, unionOf, setFor, setsFrom, setsOf, assumptionsOf, isEmpty}
+use Rattle.rules.specs.AssumptionsLaws.{decides-assumed}
 use Rattle.sets.specs.Sets.{bit, one}
 use Rattle.sets.specs.SetsLaws.{bit-zero}
 use Rattle.sets.specs.Represents.{Represents, Increasing, represents-as, each-more, represents-none, represents-more, represents-single, represents-union, represents-without, without-stranger, represents-empty, increasing-none, increasing-more}
@@ -59,7 +58,8 @@ abbrev pub unionBit : List ℕ → List ℕ → ℕ → ℕ
 unionBit masks [] j = 0
 unionBit masks (i ∷ rows) j = max (bit (getD masks i 0) j) (unionBit masks rows j)
 
--- whether it is in the set of row i without the row l: only an `asm` row is in a set
+-- whether it is in the set of row i without the row l: removing an `asm` row clears its bit, and any other row, given or
+-- derived, is in no set and clears none
 abbrev pub withoutBit : Tree → List ℕ → ℕ → ℕ → ℕ → ℕ
 withoutBit tree masks i l j = let m = bit (getD masks i 0) j in cond (assumed (entryAt tree l)) (m - bit (getD masks l 0) j) m
 

@@ -323,10 +323,6 @@ fn split() {
         b"VER 1.0\nVAR 1 x\nINT 1 0\nOBJ min 0\nCON 2 0 R1 G 1 1 0 2 R2 L 1 1 0 2\nRTP infeas\nSOL 0\nDER 5\nA1 L 0 1 0 1 { asm } -1\nA2 G 1 1 0 1 { asm } -1\nD1 G 1 0 { lin 2 0 1 2 -2 } -1\nD2 L -1 0 { lin 2 1 1 3 -2 } -1\nD3 G 1 0 { uns 4 3 5 2 } -1\n",
     );
     case(
-        b"an l row that is no asm row",
-        b"VER 1.0\nVAR 1 x\nINT 1 0\nOBJ min 0\nCON 2 0 R1 G 1 1 0 2 R2 L 1 1 0 2\nRTP infeas\nSOL 0\nDER 5\nA1 L 0 1 0 1 { asm } -1\nA2 G 1 1 0 1 { rnd 1 0 1/2 } -1\nD1 G 1 0 { lin 2 0 1 2 -2 } -1\nD2 L -1 0 { lin 2 1 1 3 -2 } -1\nD3 G 1 0 { uns 4 2 5 3 } -1\n",
-    );
-    case(
         b"a gap of 2",
         b"VER 1.0\nVAR 1 x\nINT 1 0\nOBJ min 0\nCON 2 0 R1 G 1 1 0 2 R2 L 1 1 0 2\nRTP infeas\nSOL 0\nDER 5\nA1 L 0 1 0 1 { asm } -1\nA2 G 2 1 0 1 { asm } -1\nD1 G 1 0 { lin 2 0 1 2 -2 } -1\nD2 L -1 0 { lin 2 1 1 3 -2 } -1\nD3 G 1 0 { uns 4 2 5 3 } -1\n",
     );
@@ -345,6 +341,102 @@ fn split() {
     case(
         b"an empty split",
         b"VER 1.0\nVAR 1 x\nINT 1 0\nOBJ min 0\nCON 1 0 R1 G 1 0\nRTP infeas\nSOL 0\nDER 3\nA1 L 0 0 { asm } -1\nA2 G 1 0 { asm } -1\nD1 G 1 0 { uns 0 1 0 2 } -1\n",
+    );
+}
+
+// l rows that are no asm rows: 02, request 3.
+fn split_at_any_rows() {
+    case(
+        b"l1 is a given row",
+        b"VER 1.0\nVAR 1 x\nINT 1 0\nOBJ min 0\nCON 2 0 R1 L 0 1 0 1 R2 G 1 1 0 2\nRTP infeas\nSOL 0\nDER 4\nA1 G 1 1 0 1 { asm } -1\nD1 G 1 0 { lin 2 1 1 0 -2 } -1\nD2 G 1 0 { lin 2 2 1 0 -1 } -1\nD3 G 1 0 { uns 3 0 4 2 } -1\n",
+    );
+    case(
+        b"l1 is a lin row",
+        b"VER 1.0\nVAR 1 x\nINT 1 0\nOBJ min 0\nCON 2 0 R1 L 0 1 0 2 R2 G 1 1 0 2\nRTP infeas\nSOL 0\nDER 5\nL1 L 0 1 0 1 { lin 1 0 1/2 } 6\nA1 G 1 1 0 1 { asm } -1\nD1 G 1 0 { lin 2 1 1 2 -2 } -1\nD2 G 1 0 { lin 2 3 1 2 -1 } -1\nD3 G 1 0 { uns 4 2 5 3 } -1\n",
+    );
+    case(
+        b"l1 is a given row and l2 a lin row",
+        b"VER 1.0\nVAR 1 x\nINT 1 0\nOBJ min 0\nCON 2 0 R1 L 0 1 0 1 R2 G 2 1 0 2\nRTP infeas\nSOL 0\nDER 3\nL2 G 1 1 0 1 { lin 1 1 1/2 } -1\nD1 G 1 0 { lin 2 2 1 0 -1 } -1\nD2 G 1 0 { uns 3 0 3 2 } -1\n",
+    );
+    case(
+        b"l2 is a rnd row",
+        b"VER 1.0\nVAR 1 x\nINT 1 0\nOBJ min 0\nCON 2 0 R1 G 1 1 0 2 R2 L 1 1 0 2\nRTP infeas\nSOL 0\nDER 5\nA1 L 0 1 0 1 { asm } -1\nA2 G 1 1 0 1 { rnd 1 0 1/2 } -1\nD1 G 1 0 { lin 2 0 1 2 -2 } -1\nD2 L -1 0 { lin 2 1 1 3 -2 } -1\nD3 G 1 0 { uns 4 2 5 3 } -1\n",
+    );
+    case(
+        b"l2 is a sol row, OBJ against OBJ",
+        b"VER 1.0\nVAR 1 x\nINT 1 0\nOBJ max 1 0 1\nCON 1 0 R1 L 3 1 0 2\nRTP range 1 1\nSOL 1 a 1 0 1\nDER 5\nA1 L 0 OBJ { asm } -1\nS1 G 1 OBJ { sol } -1\nD1 L 1 OBJ { lin 1 1 1 } -1\nD2 L 1 OBJ { rnd 1 0 1/2 } -1\nD3 L 1 OBJ { uns 3 1 4 2 } -1\n",
+    );
+    case(
+        b"l2 is a uns row",
+        b"VER 1.0\nVAR 1 x\nINT 1 0\nOBJ min 0\nCON 2 0 R1 L 0 1 0 1 R2 G 1 1 0 1\nRTP infeas\nSOL 0\nDER 5\nA1 L 0 0 { asm } -1\nA2 G 1 0 { asm } -1\nU1 G 1 1 0 1 { uns 1 2 1 3 } -1\nD1 G 1 0 { lin 2 4 1 0 -1 } -1\nD2 G 1 0 { uns 5 0 5 4 } -1\n",
+    );
+    case(
+        b"l1 is an OBJ row with the coefficients of l2",
+        b"VER 1.0\nVAR 1 x\nINT 1 0\nOBJ min 1 0 1\nCON 2 0 R1 L 0 OBJ R2 G 1 1 0 2\nRTP infeas\nSOL 0\nDER 4\nA1 G 1 1 0 1 { asm } -1\nD1 G 1 0 { lin 2 1 1 0 -2 } -1\nD2 G 1 0 { lin 3 1 1 0 -2 2 0 } -1\nD3 G 1 0 { uns 3 0 4 2 } -1\n",
+    );
+}
+
+// The pair test stays.
+fn pairs() {
+    case(
+        b"l1 is an OBJ row with other coefficients",
+        b"VER 1.0\nVAR 1 x\nINT 1 0\nOBJ min 1 0 2\nCON 2 0 R1 L 0 OBJ R2 G 1 1 0 2\nRTP infeas\nSOL 0\nDER 4\nA1 G 1 1 0 1 { asm } -1\nD1 G 1 0 { lin 2 1 1 0 -1 } -1\nD2 G 1 0 { lin 3 1 1 0 -1 2 0 } -1\nD3 G 1 0 { uns 3 0 4 2 } -1\n",
+    );
+    case(
+        b"l1 is l2, a given row",
+        b"VER 1.0\nVAR 1 x\nINT 1 0\nOBJ min 0\nCON 2 0 R1 L 0 1 0 1 R2 G 1 1 0 2\nRTP infeas\nSOL 0\nDER 4\nA1 G 1 1 0 1 { asm } -1\nD1 G 1 0 { lin 2 1 1 0 -2 } -1\nD2 G 1 0 { lin 3 1 1 0 -2 2 0 } -1\nD3 G 1 0 { uns 3 0 4 0 } -1\n",
+    );
+    case(
+        b"l1 is l2, an asm row",
+        b"VER 1.0\nVAR 1 x\nINT 1 0\nOBJ min 0\nCON 2 0 R1 L 0 1 0 1 R2 G 1 1 0 2\nRTP infeas\nSOL 0\nDER 4\nA1 G 1 1 0 1 { asm } -1\nD1 G 1 0 { lin 2 1 1 0 -2 } -1\nD2 G 1 0 { lin 3 1 1 0 -2 2 0 } -1\nD3 G 1 0 { uns 3 2 4 2 } -1\n",
+    );
+    case(
+        b"beside a given L row, the asm row one too high",
+        b"VER 1.0\nVAR 1 x\nINT 1 0\nOBJ min 0\nCON 2 0 R1 L 0 1 0 1 R2 G 1 1 0 2\nRTP infeas\nSOL 0\nDER 4\nA1 G 2 1 0 1 { asm } -1\nD1 G 1 0 { lin 2 1 1 0 -2 } -1\nD2 G 1 0 { lin 3 1 1 0 -2 2 0 } -1\nD3 G 1 0 { uns 3 0 4 2 } -1\n",
+    );
+    case(
+        b"beside a given L row, the asm row one too low",
+        b"VER 1.0\nVAR 1 x\nINT 1 0\nOBJ min 0\nCON 2 0 R1 L 0 1 0 1 R2 G 1 1 0 2\nRTP infeas\nSOL 0\nDER 4\nA1 G 0 1 0 1 { asm } -1\nD1 G 1 0 { lin 2 1 1 0 -2 } -1\nD2 G 1 0 { lin 3 1 1 0 -2 2 0 } -1\nD3 G 1 0 { uns 3 0 4 2 } -1\n",
+    );
+    case(
+        b"beside a given G row, the asm row that fits",
+        b"VER 1.0\nVAR 1 x\nINT 1 0\nOBJ min 0\nCON 2 0 R1 G 1 1 0 1 R2 L 1 1 0 2\nRTP infeas\nSOL 0\nDER 4\nA1 L 0 1 0 1 { asm } -1\nD1 L -1 0 { lin 2 1 1 0 -2 } -1\nD2 L -1 0 { lin 3 1 1 0 -2 2 0 } -1\nD3 L -1 0 { uns 4 2 3 0 } -1\n",
+    );
+    case(
+        b"beside a given G row, the asm row one too low",
+        b"VER 1.0\nVAR 1 x\nINT 1 0\nOBJ min 0\nCON 2 0 R1 G 1 1 0 1 R2 L 1 1 0 2\nRTP infeas\nSOL 0\nDER 4\nA1 L -1 1 0 1 { asm } -1\nD1 L -1 0 { lin 2 1 1 0 -2 } -1\nD2 L -1 0 { lin 3 1 1 0 -2 2 0 } -1\nD3 L -1 0 { uns 4 2 3 0 } -1\n",
+    );
+    case(
+        b"beside a given G row, the asm row one too high",
+        b"VER 1.0\nVAR 1 x\nINT 1 0\nOBJ min 0\nCON 2 0 R1 G 1 1 0 1 R2 L 1 1 0 2\nRTP infeas\nSOL 0\nDER 4\nA1 L 1 1 0 1 { asm } -1\nD1 L -1 0 { lin 2 1 1 0 -2 } -1\nD2 L -1 0 { lin 3 1 1 0 -2 2 0 } -1\nD3 L -1 0 { uns 4 2 3 0 } -1\n",
+    );
+}
+
+// What the sets lose, and what they keep; a spent l row.
+fn kept() {
+    case(
+        b"l1 is a given row, and i1 keeps its assumption",
+        b"VER 1.0\nVAR 1 x\nINT 1 0\nOBJ min 0\nCON 2 0 R1 L 0 1 0 1 R2 G 1 1 0 2\nRTP infeas\nSOL 0\nDER 5\nA1 G 1 1 0 1 { asm } -1\nA2 L 5 1 0 1 { asm } -1\nD1 G 1 0 { lin 3 1 1 0 -2 3 0 } -1\nD2 G 1 0 { lin 2 2 1 0 -1 } -1\nD3 G 1 0 { uns 4 0 5 2 } -1\n",
+    );
+    case(
+        b"l2 is an asm row, and i2 keeps another",
+        b"VER 1.0\nVAR 1 x\nINT 1 0\nOBJ min 0\nCON 2 0 R1 L 0 1 0 1 R2 G 1 1 0 2\nRTP infeas\nSOL 0\nDER 5\nA1 G 1 1 0 1 { asm } -1\nA2 L 5 1 0 1 { asm } -1\nD1 G 1 0 { lin 2 1 1 0 -2 } -1\nD2 G 1 0 { lin 3 2 1 0 -1 3 0 } -1\nD3 G 1 0 { uns 4 0 5 2 } -1\n",
+    );
+    case(
+        b"i1 assumes l2 and keeps it",
+        b"VER 1.0\nVAR 1 x\nINT 1 0\nOBJ min 0\nCON 2 0 R1 L 0 1 0 1 R2 G 1 1 0 2\nRTP infeas\nSOL 0\nDER 3\nA1 G 1 1 0 1 { asm } -1\nD1 G 1 0 { lin 2 2 1 0 -1 } -1\nD2 G 1 0 { uns 3 0 3 2 } -1\n",
+    );
+    case(
+        b"l1 is a lin row, and i1 keeps what l1 assumes",
+        b"VER 1.0\nVAR 1 x\nINT 1 0\nOBJ min 0\nCON 2 0 R1 G 1 1 0 2 R2 L 1 1 0 2\nRTP infeas\nSOL 0\nDER 6\nA1 L 0 1 0 1 { asm } -1\nA2 G 1 1 0 1 { asm } -1\nL1 L 0 1 0 1 { lin 1 2 1 } -1\nD1 G 1 0 { lin 2 0 1 4 -2 } -1\nD2 L -1 0 { lin 2 1 1 3 -2 } -1\nD3 G 1 0 { uns 5 4 6 3 } -1\n",
+    );
+    case(
+        b"until a later uns names that asm row",
+        b"VER 1.0\nVAR 1 x\nINT 1 0\nOBJ min 0\nCON 2 0 R1 G 1 1 0 2 R2 L 1 1 0 2\nRTP infeas\nSOL 0\nDER 7\nA1 L 0 1 0 1 { asm } -1\nA2 G 1 1 0 1 { asm } -1\nL1 L 0 1 0 1 { lin 1 2 1 } -1\nD1 G 1 0 { lin 2 0 1 4 -2 } -1\nD2 L -1 0 { lin 2 1 1 3 -2 } -1\nD3 G 1 0 { uns 5 4 6 3 } -1\nD4 G 1 0 { uns 7 2 6 3 } -1\n",
+    );
+    case(
+        b"a spent l row",
+        b"VER 1.0\nVAR 1 x\nINT 1 0\nOBJ min 0\nCON 2 0 R1 L 0 1 0 2 R2 G 1 1 0 2\nRTP infeas\nSOL 0\nDER 5\nL1 L 0 1 0 1 { lin 1 0 1/2 } 5\nA1 G 1 1 0 1 { asm } -1\nD1 G 1 0 { lin 2 1 1 2 -2 } -1\nD2 G 1 0 { lin 2 3 1 2 -1 } -1\nD3 G 1 0 { uns 4 2 5 3 } -1\n",
     );
 }
 
@@ -565,6 +657,9 @@ fn main() {
     dominated();
     rounding();
     split();
+    split_at_any_rows();
+    pairs();
+    kept();
     listed();
     claims();
     ranges();

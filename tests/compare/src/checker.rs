@@ -293,12 +293,9 @@ fn suitable_sense(certificate: &Certificate, multipliers: &[Multiplier]) -> Opti
     }
 }
 
-/// "both l rows are `asm` rows; coefficients equal and whole, nonzero only at integer variables; one is L with whole β, the
-/// other G with exactly β + 1 (never 12)".
+/// "coefficients equal and whole, nonzero only at integer variables; one is L with whole β, the other G with exactly β + 1
+/// (never 12)". That both are `asm` rows is no longer asked (request 3 of 02).
 fn is_proper_split(certificate: &Certificate, l1: usize, l2: usize) -> bool {
-    if !is_assumption(certificate, l1) || !is_assumption(certificate, l2) {
-        return false;
-    }
     let one = Constraint::of(certificate, &certificate.rows[l1]);
     let other = Constraint::of(certificate, &certificate.rows[l2]);
     let (less, greater) = match (one.sense, other.sense) {

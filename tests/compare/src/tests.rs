@@ -221,3 +221,36 @@ fn splits() {
     let kept = fine("l1 L 0 1 0 1 { asm } -1", "l2 G 1 1 0 1 { asm } -1").replace("uns 5 3 6 4", "uns 5 4 6 3");
     refused(&kept, 17, 6);
 }
+
+/// Request 3 of 02: the l rows of `uns` may be any rows.
+#[test]
+fn splits_at_any_rows() {
+    // x >= 0 is given (row 0), x <= -1 is assumed.
+    let at_given = |right: &str, unsplit: &str| {
+        let assumed = format!("l L {right} 1 0 1 {{ asm }} -1");
+        let unsplit = format!("u L 0 OBJ {{ uns {unsplit} }} -1");
+        derived(&[&assumed, "i L 0 OBJ { rnd 1 1 1/2 } -1", "j L 0 OBJ { rnd 2 1 1/2 3 0 } -1", &unsplit])
+    };
+    verified(&at_given("-1", "4 0 5 3"));
+    verified(&at_given("-1", "5 3 4 0"));
+    refused(&at_given("0", "4 0 5 3"), 16, 5);
+    refused(&at_given("-2", "4 0 5 3"), 16, 5);
+    refused(&at_given("-1", "4 0 5 0"), 16, 5);
+    refused(&at_given("-1", "4 3 5 3"), 16, 5);
+    refused(&at_given("-1", "4 2 5 3"), 16, 5);
+    // Only `j` assumes `l`, and only its set loses it.
+    refused(&at_given("-1", "5 0 4 3"), 17, 5);
+    // A copy of the assumption is no assumption: it makes the pair, and removes nothing.
+    let at_copy = |copy: &str, unsplit: &str| {
+        let rows = ["l L -1 1 0 1 { asm } -1", copy, "i L 0 OBJ { rnd 2 1 1/2 4 0 } -1", unsplit];
+        derived(&rows)
+    };
+    verified(
+        &at_copy("k L -1 1 0 1 { lin 1 3 1 } 6", "u L 0 OBJ { uns 5 3 5 0 } -1").replace("rnd 2 1 1/2 4 0", "rnd 1 1 1/2"),
+    );
+    refused(&at_copy("k L -1 1 0 1 { lin 1 3 1 } 6", "u L 0 OBJ { uns 5 4 5 0 } -1"), 17, 5);
+    refused(&at_copy("k L -1 1 0 1 { lin 1 3 1 } 5", "u L 0 OBJ { uns 5 4 5 0 } -1"), 11, 5);
+    verified(
+        &at_copy("k L -1 1 0 1 { lin 1 3 1 } 6", "u L 0 OBJ { uns 5 4 5 0 } -1").replace("rnd 2 1 1/2 4 0", "rnd 1 1 1/2"),
+    );
+}

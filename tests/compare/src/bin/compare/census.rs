@@ -15,6 +15,8 @@ pub struct Census {
     reasons: [usize; 5],
     /// `uns` that joins two branches, not one row with itself.
     joined: usize,
+    /// `uns` with an l row that is no `asm` row.
+    beside_others: usize,
     longest: usize,
     over_30_000_bytes: usize,
 }
@@ -30,6 +32,7 @@ impl Census {
         for derivation in &draft.derivations {
             self.reasons[number(&derivation.reason)] += 1;
             self.joined += usize::from(matches!(derivation.reason, Reason::Uns { i1, i2, .. } if i1 != i2));
+            self.beside_others += usize::from(splits_at_others(draft, &derivation.reason));
         }
         self.longest = self.longest.max(bytes);
         self.over_30_000_bytes += usize::from(bytes > 30_000);
@@ -48,9 +51,19 @@ impl Census {
             self.longest,
             self.over_30_000_bytes
         );
-        let joined = self.joined;
-        println!("  their reasons: asm {asm}, lin {lin}, rnd {rnd}, uns {uns} ({joined} join two branches), sol {sol}");
+        let (joined, others) = (self.joined, self.beside_others);
+        println!(
+            "  their reasons: asm {asm}, lin {lin}, rnd {rnd}, uns {uns} ({joined} join two branches, {others} name an l row that is no asm row), sol {sol}"
+        );
     }
+}
+
+fn splits_at_others(draft: &Draft, reason: &Reason) -> bool {
+    let &Reason::Uns { l1, l2, .. } = reason else { return false };
+    [l1, l2].iter().any(|&row| match row.checked_sub(draft.given()) {
+        Some(derived) => !matches!(draft.derivations[derived].reason, Reason::Asm),
+        None => true,
+    })
 }
 
 fn number(reason: &Reason) -> usize {

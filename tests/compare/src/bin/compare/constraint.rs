@@ -33,6 +33,19 @@ impl Constraint {
         self.coefficients.iter().zip(is_integer).all(fits)
     }
 
+    /// The other side of a split that has this constraint as one side, if there is one.
+    pub fn other_side(&self, is_integer: &[bool]) -> Option<Constraint> {
+        if !self.is_integral(is_integer) || !self.right.is_whole() {
+            return None;
+        }
+        let (sense, step) = match self.sense {
+            Sense::Less => (Sense::Greater, Fraction::ONE),
+            Sense::Greater => (Sense::Less, Fraction::ONE.negated()),
+            Sense::Equal => return None,
+        };
+        Some(Constraint { coefficients: self.coefficients.clone(), sense, right: self.right.sum(step)? })
+    }
+
     /// The right side rounded to the next whole number that keeps every integer point.
     pub fn rounded(mut self) -> Constraint {
         self.right = match self.sense {

@@ -6,6 +6,7 @@ use plain::reader::MOST_BYTES;
 
 use crate::draft::{Draft, Row, Solution};
 use crate::exponents;
+use crate::grow::rejoin;
 use crate::prng::Prng;
 use crate::spell::{Kind, Token};
 
@@ -51,7 +52,7 @@ fn pick_mut<'a, T>(items: &'a mut [T], prng: &mut Prng) -> Option<&'a mut T> {
 
 type DraftDamage = fn(&mut Draft, &mut Prng) -> Option<()>;
 
-const DRAFT_DAMAGE: [DraftDamage; 30] = [
+const DRAFT_DAMAGE: [DraftDamage; 32] = [
     spend_row,
     spend_row,
     drop_last_row,
@@ -59,6 +60,8 @@ const DRAFT_DAMAGE: [DraftDamage; 30] = [
     move_split,
     move_split,
     split_on_given_row,
+    split_on_copy,
+    move_given_side,
     lean_on_assumption,
     round_equality,
     assume_row,
@@ -132,7 +135,7 @@ fn pick_row_with<'a>(draft: &'a mut Draft, wanted: fn(&Reason) -> bool, prng: &m
     Some(&mut draft.rows[given + derived])
 }
 
-/// `uns` names other rows: assumptions are kept, rows that are no assumptions split.
+/// `uns` names other rows: assumptions are kept, rows that are no pair split.
 fn exchange_split(draft: &mut Draft, prng: &mut Prng) -> Option<()> {
     let rows = draft.rows.len();
     let reason = pick_reason(draft, |reason| matches!(reason, Reason::Uns { .. }), prng)?;
@@ -171,7 +174,7 @@ fn change_term(left: &mut Left, prng: &mut Prng) -> Option<()> {
     Some(())
 }
 
-/// One side of a split is a given row, which is no assumption.
+/// One side of a split is a given row, whole or not.
 fn split_on_given_row(draft: &mut Draft, prng: &mut Prng) -> Option<()> {
     let given = prng.below(draft.given());
     let mut other_side = draft.rows.get(given).filter(|_| draft.given() > 0)?.clone();
@@ -189,6 +192,22 @@ fn split_on_given_row(draft: &mut Draft, prng: &mut Prng) -> Option<()> {
     draft.rows.push(Row { name: "joined".to_string(), ..draft.rows[joined].clone() });
     let reason = Reason::Uns { i1: joined, l1: sides[0], i2: joined, l2: sides[1] };
     draft.derivations.push(Derivation { reason, last: None });
+    Some(())
+}
+
+/// `uns` names a copy of an assumption, and so keeps it.
+fn split_on_copy(draft: &mut Draft, prng: &mut Prng) -> Option<()> {
+    let last = draft.rows.len().checked_sub(1).filter(|_| !draft.derivations.is_empty())?;
+    rejoin(draft, last, true, prng).map(|_| ())
+}
+
+/// The last row is derived once more from a split at a row whose other side is one too high or too low, or just right.
+fn move_given_side(draft: &mut Draft, prng: &mut Prng) -> Option<()> {
+    let last = draft.rows.len().checked_sub(1).filter(|_| !draft.derivations.is_empty())?;
+    let before = draft.rows.len();
+    rejoin(draft, last, false, prng)?;
+    let assumed = &mut draft.rows[before];
+    assumed.right = assumed.right.sum(Fraction::whole(prng.from(-1, 1)))?;
     Some(())
 }
 

@@ -74,9 +74,19 @@ fn derive_rounding(draft: &mut Draft, prng: &mut Prng) -> Option<()> {
     Some(())
 }
 
-/// Two assumptions that make a proper split.
+/// Two rows that make a proper split: two assumptions, or a row that stands and its other side. Now and then a copy of one of
+/// them, by `lin`, is in its place.
 fn derive_split(draft: &mut Draft, splits: &mut Vec<[usize; 2]>, prng: &mut Prng) -> Option<()> {
-    if draft.assumptions_left() < 2 || draft.integers.is_empty() {
+    if draft.assumptions_left() < 2 {
+        return None;
+    }
+    let sides = if prng.chance(50) { split_at_row(draft, prng)? } else { assume_split(draft, prng)? };
+    splits.push(sides.map(|side| if prng.chance(20) { copy_row(draft, side, prng) } else { side }));
+    Some(())
+}
+
+fn assume_split(draft: &mut Draft, prng: &mut Prng) -> Option<[usize; 2]> {
+    if draft.integers.is_empty() {
         return None;
     }
     let mut coefficients = vec![Fraction::ZERO; draft.variables.len()];
@@ -84,8 +94,33 @@ fn derive_split(draft: &mut Draft, splits: &mut Vec<[usize; 2]>, prng: &mut Prng
         coefficients[*prng.pick(&draft.integers)] = Fraction::whole(prng.from(-3, 3));
     }
     let sides = crate::branch::split(&coefficients, Fraction::whole(prng.from(-4, 4)))?;
-    splits.push(sides.map(|side| draft.derive(&side, Reason::Asm, prng)));
-    Some(())
+    Some(sides.map(|side| draft.derive(&side, Reason::Asm, prng)))
+}
+
+/// A row that stands, given or derived, and its other side, which is assumed.
+fn split_at_row(draft: &mut Draft, prng: &mut Prng) -> Option<[usize; 2]> {
+    let (row, is_integer) = (prng.below(draft.rows.len()), draft.is_integer());
+    let other_side = draft.rows.get(row).and_then(|_| draft.constraint(row).other_side(&is_integer))?;
+    Some([row, draft.derive(&other_side, Reason::Asm, prng)])
+}
+
+fn copy_row(draft: &mut Draft, row: usize, prng: &mut Prng) -> usize {
+    let copied = draft.constraint(row);
+    draft.derive(&copied, Reason::Lin(vec![Multiplier { row, value: Fraction::ONE }]), prng)
+}
+
+/// Derives a row once more, from itself and from a copy that assumes one side of a split whose other side is a row that
+/// stands: nothing that the copy assumes is left. If `copied`, `uns` names a copy of the assumption in its place, which is no
+/// assumption and removes none.
+pub fn rejoin(draft: &mut Draft, row: usize, copied: bool, prng: &mut Prng) -> Option<usize> {
+    let (constraint, [side, assumed]) = (draft.constraint(row), split_at_row(draft, prng)?);
+    let multipliers = vec![Multiplier { row, value: Fraction::ONE }, Multiplier { row: assumed, value: Fraction::ZERO }];
+    let leaning = draft.derive(&constraint, Reason::Lin(multipliers), prng);
+    let other_side = if copied { copy_row(draft, assumed, prng) } else { assumed };
+    let mut joined = [(row, side), (leaning, other_side)];
+    prng.shuffle(&mut joined);
+    let [(i1, l1), (i2, l2)] = joined;
+    Some(draft.derive(&constraint, Reason::Uns { i1, l1, i2, l2 }, prng))
 }
 
 /// A row twice, once under each side of a split, proves itself.

@@ -7,7 +7,7 @@ use plain::reader::{MOST_ROWS, MOST_SOLUTIONS, MOST_VARIABLES};
 use crate::branch::{search, Found, Program};
 use crate::constraint::Constraint;
 use crate::draft::{Draft, Solution};
-use crate::grow::{add_given_row, derive_row};
+use crate::grow::{add_given_row, derive_row, rejoin};
 use crate::prng::Prng;
 use crate::proof::{place, place_values, Proved, Prover};
 
@@ -201,6 +201,9 @@ fn derive_rows(
         let copied = draft.constraint(proved.row);
         let multiplier = Multiplier { row: proved.row, value: Fraction::ONE };
         proved.row = draft.derive(&copied, Reason::Lin(vec![multiplier]), prng);
+    }
+    if draft.assumptions_left() > 1 && prng.chance(25) {
+        proved.row = rejoin(draft, proved.row, false, prng).unwrap_or(proved.row);
     }
     (draft.assumptions_left() > 0 && draft.rows.len() <= MOST_ROWS).then_some(Some(proved))
 }

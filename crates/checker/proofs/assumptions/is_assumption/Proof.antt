@@ -1,10 +1,10 @@
--- `checker::derivations::is_assumption` meets its contract: a given row never is; a derived row by the word of its reason.
+-- `checker::assumptions::is_assumption` meets its contract: a given row never is; a derived row by the word of its reason.
 use mathlib.Core.Path.{sym, ap}
 use native.Mathlib.Omega.{arith}
-use Rattle.rules.specs.Splits.{assumed}
+use Rattle.rules.specs.Assumptions.{assumed}
 use Rattle.checker.proofs.DerivationsLaws.{row-found, given-here, derived-row, word-there, assumed-by}
-use Rattle.checker.proofs.derivations.is_assumption.Statement.{statement}
-use Rattle.checker.proofs.derivations.is_assumption.Tie as tie
+use Rattle.checker.proofs.assumptions.is_assumption.Statement.{statement}
+use Rattle.checker.proofs.assumptions.is_assumption.Tie as tie
 
 returns : tie.Need-returns
 returns c = λ tree values h. ap assumed (sym (given-here h _ (c .if1 .taken)))
