@@ -275,9 +275,10 @@ cases =
     ∷ refuses 17 13 (oneInteger "OBJ min 0\nCON 2 0 R1 L 0 1 0 1 R2 G 1 1 0 2\nRTP infeas\nSOL 0\nDER 5\nA1 G 1 1 0 1 { asm } -1\nA2 L 5 1 0 1 { asm } -1\nD1 G 1 0 { lin 2 1 1 0 -2 } -1\nD2 G 1 0 { lin 3 2 1 0 -1 3 0 } -1\nD3 G 1 0 { uns 4 0 5 2 } -1\n")
     -- l2 goes from A(i2) only, and i1 assumes it too
     ∷ refuses 17 11 (oneInteger "OBJ min 0\nCON 2 0 R1 L 0 1 0 1 R2 G 1 1 0 2\nRTP infeas\nSOL 0\nDER 3\nA1 G 1 1 0 1 { asm } -1\nD1 G 1 0 { lin 2 2 1 0 -1 } -1\nD2 G 1 0 { uns 3 0 3 2 } -1\n")
-    -- l1 is a `lin` row that assumes A1: it is no `asm` row, so nothing goes, and A1 stays
-    ∷ refuses 17 14 (oneInteger "OBJ min 0\nCON 2 0 R1 G 1 1 0 2 R2 L 1 1 0 2\nRTP infeas\nSOL 0\nDER 6\nA1 L 0 1 0 1 { asm } -1\nA2 G 1 1 0 1 { asm } -1\nL1 L 0 1 0 1 { lin 1 2 1 } -1\nD1 G 1 0 { lin 2 0 1 4 -2 } -1\nD2 L -1 0 { lin 2 1 1 3 -2 } -1\nD3 G 1 0 { uns 5 4 6 3 } -1\n")
-    -- until a later `uns` names A1 itself
+    -- l1, x ≤ 0, is a `lin` row that assumes A1, x ≤ -5: it is no `asm` row, so nothing goes, and A1 stays. -4 ≤ x ≤ 0 has whole
+    -- solutions: without A1 this would be a wrong `verified`
+    ∷ refuses 17 14 (oneInteger "OBJ min 0\nCON 2 0 R1 G -4 1 0 1 R2 L 0 1 0 1\nRTP infeas\nSOL 0\nDER 6\nA1 L -5 1 0 1 { asm } -1\nL1 L 0 1 0 1 { lin 1 2 1 } -1\nA2 G 1 1 0 1 { asm } -1\nD1 G 1 0 { lin 2 0 1 2 -1 } -1\nD2 G 1 0 { lin 2 4 1 1 -1 } -1\nD3 G 1 0 { uns 5 3 6 4 } -1\n")
+    -- l1 is a `lin` row that assumes A1, and a later `uns` names A1 itself
     ∷ verifies (oneInteger "OBJ min 0\nCON 2 0 R1 G 1 1 0 2 R2 L 1 1 0 2\nRTP infeas\nSOL 0\nDER 7\nA1 L 0 1 0 1 { asm } -1\nA2 G 1 1 0 1 { asm } -1\nL1 L 0 1 0 1 { lin 1 2 1 } -1\nD1 G 1 0 { lin 2 0 1 4 -2 } -1\nD2 L -1 0 { lin 2 1 1 3 -2 } -1\nD3 G 1 0 { uns 5 4 6 3 } -1\nD4 G 1 0 { uns 7 2 6 3 } -1\n")
     -- ---- sol
     -- "18": no solution is listed

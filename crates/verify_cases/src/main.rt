@@ -428,10 +428,10 @@ fn kept() {
     );
     case(
         b"l1 is a lin row, and i1 keeps what l1 assumes",
-        b"VER 1.0\nVAR 1 x\nINT 1 0\nOBJ min 0\nCON 2 0 R1 G 1 1 0 2 R2 L 1 1 0 2\nRTP infeas\nSOL 0\nDER 6\nA1 L 0 1 0 1 { asm } -1\nA2 G 1 1 0 1 { asm } -1\nL1 L 0 1 0 1 { lin 1 2 1 } -1\nD1 G 1 0 { lin 2 0 1 4 -2 } -1\nD2 L -1 0 { lin 2 1 1 3 -2 } -1\nD3 G 1 0 { uns 5 4 6 3 } -1\n",
+        b"VER 1.0\nVAR 1 x\nINT 1 0\nOBJ min 0\nCON 2 0 R1 G -4 1 0 1 R2 L 0 1 0 1\nRTP infeas\nSOL 0\nDER 6\nA1 L -5 1 0 1 { asm } -1\nL1 L 0 1 0 1 { lin 1 2 1 } -1\nA2 G 1 1 0 1 { asm } -1\nD1 G 1 0 { lin 2 0 1 2 -1 } -1\nD2 G 1 0 { lin 2 4 1 1 -1 } -1\nD3 G 1 0 { uns 5 3 6 4 } -1\n",
     );
     case(
-        b"until a later uns names that asm row",
+        b"l1 is a lin row, and a later uns names what it assumes",
         b"VER 1.0\nVAR 1 x\nINT 1 0\nOBJ min 0\nCON 2 0 R1 G 1 1 0 2 R2 L 1 1 0 2\nRTP infeas\nSOL 0\nDER 7\nA1 L 0 1 0 1 { asm } -1\nA2 G 1 1 0 1 { asm } -1\nL1 L 0 1 0 1 { lin 1 2 1 } -1\nD1 G 1 0 { lin 2 0 1 4 -2 } -1\nD2 L -1 0 { lin 2 1 1 3 -2 } -1\nD3 G 1 0 { uns 5 4 6 3 } -1\nD4 G 1 0 { uns 7 2 6 3 } -1\n",
     );
     case(
