@@ -7,7 +7,7 @@ use Prim.Native.Nat.{ℕ, _+_, _-_, _*_, _≤_, _<_}
 use native.Mathlib.Omega.{arith}
 use lib.IntN.{ℤ}
 use lib.ListN.{length, getD}
-use Rattle.fraction.specs.declared.Fraction.{Fraction}
+use Rattle.arithmetic.specs.declared.Fraction.{Fraction}
 use Rattle.grammar.specs.Tree.{Direction, minimize, maximize, atMost, atLeast, End, infinite, finite, Claim, infeas, range, Tree}
 use Rattle.grammar.specs.Contents.{endCell}
 use Rattle.rules.specs.Tests.{Decides, not-true}

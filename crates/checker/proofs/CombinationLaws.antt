@@ -10,11 +10,11 @@ use borrow.Author.Tests.{not-true, not-false}
 use denote.Enum.Declared.{tagOf}
 use lib.IntN.{ℤ}
 use lib.ListN.{length, getD, set}
-use Rattle.fraction.specs.Fraction.{arithmeticSays}
-use Rattle.fraction.proofs.Arithmetic.{the-type}
-use Rattle.fraction.specs.declared.Arithmetic.{Arithmetic}
-use Rattle.fraction.specs.declared.Arithmetic.the-variants.{Value, NotAFraction, TooWide}
-use Rattle.fraction.specs.declared.Fraction.{Fraction}
+use Rattle.arithmetic.specs.Fraction.{arithmeticSays}
+use Rattle.arithmetic.proofs.Arithmetic.{the-type}
+use Rattle.arithmetic.specs.declared.Arithmetic.{Arithmetic}
+use Rattle.arithmetic.specs.declared.Arithmetic.the-variants.{Value, NotAFraction, TooWide}
+use Rattle.arithmetic.specs.declared.Fraction.{Fraction}
 use Rattle.grammar.specs.Tree.{Term, Multiplier, Tree}
 use Rattle.rules.specs.Result.{Result, done, refused, bind, through}
 use Rattle.rules.specs.Values.{within12, productAt, sumAt}

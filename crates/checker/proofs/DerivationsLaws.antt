@@ -15,8 +15,8 @@ use lib.Dec.{eqb, ltb}
 use lib.IntN.{ℤ}
 use lib.ListN.{length, getD, drop, drop-of-length-le}
 use lib.Seq.{drop-cons}
-use Rattle.fraction.specs.declared.Fraction.{Fraction}
-use Rattle.fraction.specs.Fraction.{IsFraction}
+use Rattle.arithmetic.specs.declared.Fraction.{Fraction}
+use Rattle.arithmetic.specs.Fraction.{IsFraction}
 use Rattle.grammar.specs.Certificate.{isAssumption}
 use Rattle.grammar.specs.Contents.{lastCell}
 use Rattle.grammar.specs.Ranges.{LastInRange}

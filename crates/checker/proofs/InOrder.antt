@@ -6,7 +6,7 @@ use mathlib.Core.List.{List}
 use Prim.Native.Nat.{ℕ}
 use lib.IntN.{ℤ}
 use lib.ListN.{length}
-use Rattle.fraction.specs.declared.Fraction.{Fraction}
+use Rattle.arithmetic.specs.declared.Fraction.{Fraction}
 use Rattle.grammar.specs.Refusals.{refusalNumber}
 use Rattle.grammar.specs.Tree.{Direction, End, infinite, finite, Tree}
 use Rattle.grammar.specs.declared.Refusal.{Refusal}

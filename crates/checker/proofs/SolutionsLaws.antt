@@ -8,9 +8,9 @@ use Prim.Native.Nat.{ℕ, _+_, _≤_, _<_}
 use native.Mathlib.Omega.{arith}
 use lib.IntN.{ℤ}
 use lib.ListN.{length, getD}
-use Rattle.fraction.specs.declared.Arithmetic.{Arithmetic}
-use Rattle.fraction.specs.declared.Arithmetic.the-variants.{Value}
-use Rattle.fraction.specs.declared.Fraction.{Fraction}
+use Rattle.arithmetic.specs.declared.Arithmetic.{Arithmetic}
+use Rattle.arithmetic.specs.declared.Arithmetic.the-variants.{Value}
+use Rattle.arithmetic.specs.declared.Fraction.{Fraction}
 use Rattle.grammar.specs.Tree.{Term, Row, Direction, minimize, maximize, Solution, Tree}
 use Rattle.rules.specs.Result.{Result, done, refused, Verdict, bind, _andThen_, require, each}
 use Rattle.rules.specs.Tests.{someOf}

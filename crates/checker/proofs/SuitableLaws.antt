@@ -11,7 +11,7 @@ use lib.IntN.{ℤ, pos, negsuc}
 use lib.ListN.{getD}
 use lib.Dec.{leb·zero, leb·suc-zero, leb·suc-suc}
 use lib.Signed.{ltZ, leZ}
-use Rattle.fraction.specs.declared.Fraction.{Fraction}
+use Rattle.arithmetic.specs.declared.Fraction.{Fraction}
 use Rattle.grammar.specs.Tree.{Sense, equal, atMost, atLeast, Multiplier, Tree}
 use Rattle.rules.specs.Tests.{allOf}
 use Rattle.rules.specs.Result.{Result, Verdict, done, bind, _andThen_, require}

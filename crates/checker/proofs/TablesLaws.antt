@@ -13,8 +13,8 @@ use lib.Dec.{eqb}
 use lib.IntN.{ℤ, pos}
 use lib.ListN.{length, getD, set, replicate, length-set, length-replicate}
 use lib.Seq.{getD-set-same, getD-set-other}
-use Rattle.fraction.specs.Laws.{zeroF}
-use Rattle.fraction.specs.declared.Fraction.{Fraction}
+use Rattle.arithmetic.specs.Laws.{zeroF}
+use Rattle.arithmetic.specs.declared.Fraction.{Fraction}
 use Rattle.grammar.specs.Certificate.{senseCell}
 use Rattle.grammar.specs.Tree.{Sense, equal, atMost, atLeast, Row, Tree}
 use Rattle.rules.specs.Tests.{someOf}

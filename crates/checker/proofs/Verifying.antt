@@ -11,7 +11,7 @@ use lib.Dec.{leb}
 use lib.IntN.{ℤ, pos}
 use lib.ListN.{length}
 use Rattle.text.specs.Bytes.{Bytes}
-use Rattle.fraction.specs.Meaning.{and-true, true-and}
+use Rattle.arithmetic.specs.Meaning.{and-true, true-and}
 use Rattle.grammar.specs.Tree.{Tree}
 use Rattle.grammar.specs.Tables.{indexCells, valueCells, rowCells, indexTable, valueTable, rowTable}
 use Rattle.grammar.specs.Texts.{SpellsTree, ReadText, taken, refused, readOf, read-sound, read-complete}

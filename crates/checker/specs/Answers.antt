@@ -5,7 +5,7 @@ use mathlib.Core.Bool.{Bool, true, false, cond}
 use mathlib.Core.Option.{Option, none, some}
 use mathlib.Core.List.{List}
 use Prim.Native.Nat.{ℕ}
-use Rattle.fraction.specs.declared.Fraction.{Fraction}
+use Rattle.arithmetic.specs.declared.Fraction.{Fraction}
 use Rattle.grammar.specs.Refusals.{refusalNumber}
 use Rattle.grammar.specs.Tree.{Direction, minimize, maximize, Sense, atMost, atLeast, End, infinite, finite, Claim, infeas, range, Tree}
 use Rattle.rules.specs.Result as result

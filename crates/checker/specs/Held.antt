@@ -8,7 +8,7 @@ use lib.Dec.{eqb}
 use lib.IntN.{ℤ}
 use lib.ListN.{length, getD}
 use Rattle.text.specs.Bytes.{Bytes}
-use Rattle.fraction.specs.declared.Fraction.{Fraction}
+use Rattle.arithmetic.specs.declared.Fraction.{Fraction}
 use Rattle.grammar.specs.Tree.{Direction, minimize, maximize, Row, End, infinite, finite, Claim, infeas, range, Solution, Reason, asm, lin, rnd, uns, sol, Unsplit, never, Derivation, Tree}
 use Rattle.grammar.specs.Certificate.{senseCell}
 use Rattle.grammar.specs.Contents.{lastCell, endCell}

@@ -9,7 +9,7 @@ use lib.Dec.{eqb, lit<}
 use lib.IntN.{ℤ}
 use lib.ListN.{length, getD, length-map, length-append, List·getD-map}
 use Rattle.text.specs.Tokens.{Token}
-use Rattle.fraction.specs.declared.Fraction.{Fraction}
+use Rattle.arithmetic.specs.declared.Fraction.{Fraction}
 use Rattle.grammar.specs.Tree.{Direction, minimize, maximize, Row, End, infinite, finite, Claim, infeas, range, Derivation, Tree}
 use Rattle.grammar.specs.Certificate.{directionCell, certificate}
 use Rattle.grammar.specs.Layout.{Mark, cells, values}

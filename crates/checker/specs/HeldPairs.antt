@@ -11,8 +11,8 @@ use lib.Dec.{eqb}
 use lib.IntN.{ℤ, pos}
 use lib.ListN.{length, getD, take, drop, length-map, length-append}
 use lib.Seq.{split-at, length-take-le}
-use Rattle.fraction.specs.Laws.{zeroF}
-use Rattle.fraction.specs.declared.Fraction.{Fraction}
+use Rattle.arithmetic.specs.Laws.{zeroF}
+use Rattle.arithmetic.specs.declared.Fraction.{Fraction}
 use Rattle.grammar.specs.Tree.{Tree, Term, TermList, Multiplier, MultiplierList, Side, obj, listed, Reason, asm, lin, rnd, uns, sol}
 use Rattle.grammar.specs.Contents.{sideCells, sideValues, multiplierCells, multiplierValues, reasonCells, reasonValues}
 use Rattle.grammar.specs.Fits.{by-turns-length}

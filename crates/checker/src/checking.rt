@@ -3,7 +3,7 @@ ghost use mathlib.Core.Path.{_≡_};
 ghost use mathlib.Core.List.{List};
 ghost use Prim.Native.Nat.{ℕ};
 ghost use lib.ListN.{length};
-ghost use Rattle.fraction.specs.declared.Fraction.{Fraction as FractionOf};
+ghost use Rattle.arithmetic.specs.declared.Fraction.{Fraction as FractionOf};
 ghost use Rattle.grammar.specs.Tree.{Tree};
 ghost use Rattle.rules.specs.Result.{_andThen_, require, eachFrom};
 ghost use Rattle.rules.specs.Solutions.{bestOf};

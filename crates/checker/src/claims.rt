@@ -18,8 +18,8 @@ use crate::assumptions;
 use crate::derivations;
 use crate::tables;
 use crate::tables::Frame;
+use arithmetic::Fraction;
 use constraint::Sense;
-use fraction::Fraction;
 
 // An end of a range: infinite, or finite with a value.
 pub(crate) struct Bound {

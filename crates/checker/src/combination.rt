@@ -2,7 +2,7 @@
 ghost use mathlib.Core.Path.{_≡_};
 ghost use mathlib.Core.Bool.{true};
 ghost use Prim.Native.Nat.{ℕ};
-ghost use Rattle.fraction.specs.Fraction.{arithmeticSays};
+ghost use Rattle.arithmetic.specs.Fraction.{arithmeticSays};
 ghost use Rattle.grammar.specs.Tree.{Row, Tree};
 ghost use Rattle.rules.specs.Result.{bind, through};
 ghost use Rattle.rules.specs.Values.{within12, productAt, sumAt};
@@ -14,9 +14,9 @@ ghost use Rattle.checker.specs.Answers.{coefficientsSay, combinationOf, 
 use crate::Check;
 use crate::tables;
 use crate::tables::Pairs;
+use arithmetic::Arithmetic;
+use arithmetic::Fraction;
 use constraint::Constraint;
-use fraction::Arithmetic;
-use fraction::Fraction;
 
 // A running combination: the coefficient of each variable, the right side, and whether each product and sum was within the limit.
 // If one was not, the coefficients and the right side say nothing.

@@ -5,7 +5,7 @@ ghost use mathlib.Core.List.{List};
 ghost use Prim.Native.Nat.{ℕ, _+_, _<_};
 ghost use lib.IntN.{ℤ};
 ghost use lib.ListN.{length};
-ghost use Rattle.fraction.specs.declared.Fraction.{Fraction as FractionOf};
+ghost use Rattle.arithmetic.specs.declared.Fraction.{Fraction as FractionOf};
 ghost use Rattle.grammar.specs.Tree.{Unsplit, Tree};
 ghost use Rattle.rules.specs.Result.{require, each, eachFrom};
 ghost use Rattle.rules.specs.Rows.{objective, objectiveWith, entryAt, rowAt};
@@ -25,9 +25,9 @@ use crate::suitable::Suitable;
 use crate::tables;
 use crate::tables::Frame;
 use crate::tables::Pairs;
+use arithmetic::Fraction;
 use constraint::Constraint;
 use constraint::Sense;
-use fraction::Fraction;
 use grammar::Refusal;
 
 // ---- spent rows

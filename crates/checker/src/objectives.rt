@@ -2,7 +2,7 @@
 ghost use mathlib.Core.Path.{_≡_};
 ghost use mathlib.Core.Bool.{_||_};
 ghost use Prim.Native.Nat.{ℕ, _<_};
-ghost use Rattle.fraction.specs.Fraction.{arithmeticSays};
+ghost use Rattle.arithmetic.specs.Fraction.{arithmeticSays};
 ghost use Rattle.grammar.specs.Tree.{Direction, Tree};
 ghost use Rattle.rules.specs.Values.{within12};
 ghost use Rattle.rules.specs.Rows.{objective};
@@ -11,8 +11,8 @@ ghost use Rattle.checker.specs.Held.{isMaximize, solutionAt, Stands, Sta
 ghost use Rattle.checker.specs.Answers.{bestSays, nextBest, ObjectivesSay};
 use crate::solutions;
 use crate::tables::Frame;
-use fraction::Arithmetic;
-use fraction::Fraction;
+use arithmetic::Arithmetic;
+use arithmetic::Fraction;
 
 // The best objective so far, if there is any, and whether one of them reaches the bound.
 pub(crate) struct Best {

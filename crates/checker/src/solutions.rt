@@ -2,7 +2,7 @@
 ghost use mathlib.Core.Path.{_≡_};
 ghost use mathlib.Core.List.{List};
 ghost use Prim.Native.Nat.{ℕ, _<_};
-ghost use Rattle.fraction.specs.Fraction.{arithmeticSays};
+ghost use Rattle.arithmetic.specs.Fraction.{arithmeticSays};
 ghost use Rattle.grammar.specs.Tree.{Term, Row, Solution, Tree};
 ghost use Rattle.rules.specs.Result.{require, each};
 ghost use Rattle.rules.specs.Values.{isWhole, within12};
@@ -18,8 +18,8 @@ use crate::combination;
 use crate::tables;
 use crate::tables::Frame;
 use crate::tables::Pairs;
-use fraction::Arithmetic;
-use fraction::Fraction;
+use arithmetic::Arithmetic;
+use arithmetic::Fraction;
 use grammar::Refusal;
 
 // The left side of listed terms at a point, which has a value for each variable.

@@ -15,8 +15,8 @@ use crate::Check;
 use crate::combination;
 use crate::tables;
 use crate::tables::Pairs;
+use arithmetic::Fraction;
 use constraint::Constraint;
-use fraction::Fraction;
 use grammar::Refusal;
 
 // Whether no multiplier times its row's sign is negative, and whether none is positive.

@@ -10,9 +10,9 @@ ghost use Rattle.rules.specs.Rounding.{isInteger};
 ghost use Rattle.constraint.specs.Meaning.{senseIs, coefficientsOf, meant, marked};
 ghost use Rattle.checker.specs.Tables.{fractionAt, termsAt, Listed, pairsFrom, sideAt, ownTerms, reasonAt, afterWord, lastAt};
 ghost use Rattle.checker.specs.Held.{cellOf, RowStands, RowIsThere, multipliersOf, IntegersStand, IntegersAreThere};
+use arithmetic::Fraction;
 use constraint::Constraint;
 use constraint::Sense;
-use fraction::Fraction;
 
 // Where a list of pairs stands: the index cell of its first index, the number of its first value, and how many pairs it has.
 pub(crate) struct Pairs {

@@ -11,10 +11,10 @@ use lib.Dec.{eqb}
 use lib.ListN.{getD, set, length, List·getD-eq-default}
 use lib.Seq.{getD-set-same, getD-set-other}
 use lib.IntN.{pos}
-use Rattle.fraction.specs.QuotientLaws.{≈-refl}
-use Rattle.fraction.specs.Fraction.{exact}
-use Rattle.fraction.specs.Laws.{zeroF, zero-is}
-use Rattle.fraction.specs.declared.Fraction.{Fraction}
+use Rattle.arithmetic.specs.QuotientLaws.{≈-refl}
+use Rattle.arithmetic.specs.Fraction.{exact}
+use Rattle.arithmetic.specs.Laws.{zeroF, zero-is}
+use Rattle.arithmetic.specs.declared.Fraction.{Fraction}
 use Rattle.rules.specs.Values.{zeroQ, isZero, isSame}
 use Rattle.rules.specs.ValuesLaws.{decides-same}
 use Rattle.rules.specs.Combinations.{withCoefficient}

@@ -13,9 +13,9 @@ use mir.Val.{SFits, toZ, ofZ}
 use mir.Facts.{toZ-ofZ}
 use Rattle.integers.proofs.Casts.{back-of, zero-minus, neg-fits, natAbs-small}
 use Rattle.integers.specs.Integers.{*ℤ-pos-one}
-use Rattle.fraction.specs.Outcome.{Outcome, gives, refuses}
-use Rattle.fraction.specs.Fraction.{Order, comparisonSays}
-use Rattle.fraction.specs.declared.Comparison.{Comparison}
+use Rattle.arithmetic.specs.Outcome.{Outcome, gives, refuses}
+use Rattle.arithmetic.specs.Fraction.{Order, comparisonSays}
+use Rattle.arithmetic.specs.declared.Comparison.{Comparison}
 use Rattle.rules.specs.Tests.{fails}
 use Rattle.rules.specs.Values.{sameZ, passes}
 use Rattle.rules.specs.ValuesLaws.{decides-same-integer}

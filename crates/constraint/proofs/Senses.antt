@@ -3,10 +3,10 @@
 use mathlib.Core.Path.{_≡_, refl, sym, _∙_, ap}
 use mathlib.Core.Bool.{Bool}
 use lib.IntN.{ℤ}
-use Rattle.fraction.specs.Outcome.{gives}
-use Rattle.fraction.specs.Fraction.{IsFraction, isFraction, onFractions}
-use Rattle.fraction.specs.Meaning.{fraction-is, is-fraction}
-use Rattle.fraction.specs.declared.Fraction.{Fraction}
+use Rattle.arithmetic.specs.Outcome.{gives}
+use Rattle.arithmetic.specs.Fraction.{IsFraction, isFraction, onFractions}
+use Rattle.arithmetic.specs.Meaning.{fraction-is, is-fraction}
+use Rattle.arithmetic.specs.declared.Fraction.{Fraction}
 use Rattle.grammar.specs.Tree.{Sense, equal, atMost, atLeast}
 use Rattle.rules.specs.Tests.{fails}
 use Rattle.rules.specs.Values.{wholeF}

@@ -6,10 +6,10 @@ use mathlib.Core.List.{List}
 use Prim.Native.Nat.{ℕ}
 use lib.IntN.{ℤ, pos, _+ℤ_}
 use lib.ListN.{getD}
-use Rattle.fraction.specs.Outcome.{Outcome, gives, refuses}
-use Rattle.fraction.specs.Fraction.{exact, Order}
-use Rattle.fraction.specs.Laws.{zeroF}
-use Rattle.fraction.specs.declared.Fraction.{Fraction}
+use Rattle.arithmetic.specs.Outcome.{Outcome, gives, refuses}
+use Rattle.arithmetic.specs.Fraction.{exact, Order}
+use Rattle.arithmetic.specs.Laws.{zeroF}
+use Rattle.arithmetic.specs.declared.Fraction.{Fraction}
 use Rattle.grammar.specs.Tree as tree
 use Rattle.rules.specs.Tests.{everyBelow}
 use Rattle.rules.specs.Values.{wholeF, sameZ, isWhole, isZero, isSame}

@@ -3,7 +3,7 @@
 // for the variables beyond the array have the coefficient 0.
 ghost use mathlib.Core.Path.{_≡_};
 ghost use Prim.Native.Nat.{min};
-ghost use Rattle.fraction.specs.Fraction.{IsFraction, exact, compareOf, roundingSays};
+ghost use Rattle.arithmetic.specs.Fraction.{IsFraction, exact, compareOf, roundingSays};
 ghost use Rattle.grammar.specs.Tree.{Tree};
 ghost use Rattle.grammar.specs.Certificate.{senseCell};
 ghost use Rattle.rules.specs.Values.{isWhole, isZero, passes, isSame, isAtMost};

@@ -1,5 +1,3 @@
 -- Laws over plain values that the functions' proofs cite.
-mod Rounded
-mod Ways
-mod Lowest
-mod Whole
+mod Divided
+mod Tested

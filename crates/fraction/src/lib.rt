@@ -1,241 +1,47 @@
 // Values within the limit: fractions in lowest terms, whose numerator and denominator have magnitudes of at most
-// 2,147,483,647, with product, sum, comparison, floor and ceiling. No public function asks anything of its caller.
+// 2,147,483,647, with product, sum, comparison, floor and ceiling. No public function asks anything of its caller: operands
+// that are no fractions are refused.
 ghost use mathlib.Core.Path.{_≡_};
 ghost use mathlib.Core.Bool.{_&&_};
-ghost use Prim.Native.Nat.{ℕ, _*_, _≤_, _<_};
+ghost use Prim.Native.Nat.{_<_, _∣_};
 ghost use lib.Dec.{eqb};
-ghost use lib.IntN.{ℤ, pos, natAbs, _*ℤ_, _+ℤ_};
-ghost use lib.Signed.{_<ℤ_};
+ghost use lib.IntN.{natAbs};
 ghost use Rattle.integers.specs.Gcd.{gcd as gcdOf};
-ghost use Rattle.integers.specs.Binary.{Odd, oddOf, Narrow, Paired, Stepped, Going};
-ghost use Rattle.integers.specs.Signs.{withSign};
-ghost use Rattle.fraction.specs.Quotient.{_+Q_, _*Q_, lowest, floorZ, ceilingZ};
-ghost use Rattle.fraction.specs.Fraction.{limit, IsFraction, isFraction, onFractions, within as withinOf, reducedOf, productOf, sumOf, after, addProductOf, compareOf, order, floorOf, ceilingOf, arithmeticSays, comparisonSays, roundingSays};
-ghost use Rattle.fraction.specs.Laws.{zeroF};
-ghost use Rattle.fraction.specs.Outcome.{gives};
-ghost use Rattle.fraction.specs.Parts.{Parts, Shaped, Worked, isShaped, lowestTerms, over};
+ghost use Rattle.arithmetic.specs.Quotient.{lowest};
+ghost use Rattle.arithmetic.specs.Fraction.{isFraction, ratioOf, onFractions, within as withinOf, reducedOf, productOf, sumOf, addProductOf, compareOf, floorOf, ceilingOf, arithmeticSays, comparisonSays, roundingSays};
+ghost use Rattle.arithmetic.specs.Parts.{isShaped};
+ghost use Rattle.fraction.specs.Results.{inLowestTerms, ResultOf};
+pub use arithmetic::Arithmetic;
+pub use arithmetic::Comparison;
+pub use arithmetic::Fraction;
+use arithmetic::Ratio;
+pub use arithmetic::Rounding;
+use divisors::Pair;
 
-// The largest magnitude of a numerator or a denominator.
-const LIMIT: u64 = 2147483647;
+// Above this product of denominators, three greatest common divisors in one loop take less time than one after the other.
+const WIDE: u64 = 1048576;
 
-// A numerator over a denominator. Any two numbers can stand here; `is_fraction` says which pairs are values.
-pub struct Fraction {
-    pub num: i32,
-    pub den: i32,
-}
+// ---- fractions
 
-// What a product or a sum answers: 01's refusals 4 and 12 are NotAFraction and TooWide.
-pub enum Arithmetic {
-    Value(Fraction),
-    NotAFraction,
-    TooWide,
-}
-
-// How two values compare.
-pub enum Comparison {
-    Less,
-    Equal,
-    Greater,
-    NotAFraction,
-}
-
-// What floor and ceiling answer.
-pub enum Rounding {
-    Whole(i32),
-    NotAFraction,
-}
-
-// The greatest common divisor of odd numbers: the lesser is taken off the greater, and what is left is halved until it is odd.
-// The wrapped difference has as many zeros at its end as the difference, so they are counted while the numbers are compared.
-fn gcd_odd(a: u64, b: u64) -> u64
-    requires { ⌜ Odd a × Odd b ⌝ }
-    ensures { λ r. ⌜ r ≡ gcdOf a b ⌝ }
-{
-    let mut x = a;
-    let mut y = b;
-    while x != y {
-        let t = u64::trailing_zeros(std::num::wrapping_sub_u64(x, y));
-        if x < y {
-            y = (y - x) >> t;
-        } else {
-            let z = x - y;
-            x = y;
-            y = z >> t;
-        }
-    }
-    x
-}
-
-// Two numbers whose greatest common divisor is wanted.
-struct Pair {
-    x: u64,
-    y: u64,
-}
-
-// Numbers of 32 bits as such a pair.
-fn paired(a: u32, b: u32) -> Pair
-    ensures { λ r. ⌜ (r .x ≡ a) × (r .y ≡ b) ⌝ }
+// A numerator's magnitude and a denominator's.
+fn parts(f: Fraction) -> Pair
+    ensures { λ r. ⌜ (r .x ≡ natAbs (f .num)) × (r .y ≡ natAbs (f .den)) ⌝ }
 {
     Pair {
-        x: a as u64,
-        y: b as u64,
+        x: arithmetic::magnitude(f.num) as u64,
+        y: arithmetic::magnitude(f.den) as u64,
     }
 }
 
-// Both without their factors of two.
-fn odd(p: Pair) -> Pair
-    requires { ⌜ (0 < p .x) × (0 < p .y) ⌝ }
-    ensures { λ r. ⌜ (r .x ≡ oddOf (p .x)) × (r .y ≡ oddOf (p .y)) ⌝ }
+// Whether numerator and denominator have no common divisors. A whole number needs no greatest common divisor.
+fn is_lowest(f: Fraction) -> bool
+    ensures { λ r. ⌜ r ≡ inLowestTerms f ⌝ }
 {
-    let x = p.x;
-    let y = p.y;
-    Pair {
-        x: x >> u64::trailing_zeros(x),
-        y: y >> u64::trailing_zeros(y),
-    }
-}
-
-// The greatest common divisor from that of the odd numbers: of the powers of two that divide x and y, the lesser divides both.
-fn with_twos(p: Pair, g: u64) -> u64
-    requires { ⌜ (0 < p .x) × (0 < p .y) × (g ≡ gcdOf (oddOf (p .x)) (oddOf (p .y))) ⌝ }
-    ensures { λ r. ⌜ r ≡ gcdOf (p .x) (p .y) ⌝ }
-{
-    let i = u64::trailing_zeros(p.x);
-    let j = u64::trailing_zeros(p.y);
-    if i < j { g << i } else { g << j }
-}
-
-// The greatest common divisor of any two numbers.
-fn gcd(a: u64, b: u64) -> u64
-    ensures { λ r. ⌜ r ≡ gcdOf a b ⌝ }
-{
-    if a == 0 {
-        return b;
-    }
-    if b == 0 {
-        return a;
-    }
-    let p = Pair { x: a, y: b };
-    let o = odd(p);
-    with_twos(p, gcd_odd(o.x, o.y))
-}
-
-// One step of `gcds`. The sum with 2^63 has as many zeros at its end as the difference of x and y, where there is one.
-fn step(p: Pair) -> Pair
-    requires { ⌜ Paired 9223372036854775808 (p .x) (p .y) ⌝ }
-    ensures { λ r. ⌜ Stepped 9223372036854775808 (p .x) (p .y) (r .x) (r .y) ⌝ }
-{
-    let x = p.x;
-    let y = p.y;
-    let t = u64::trailing_zeros(x + 9223372036854775808 - y);
-    if x < y {
-        Pair {
-            x: (y - x) >> t,
-            y: x,
-        }
-    } else {
-        Pair {
-            x: (x - y) >> t,
-            y: y,
-        }
-    }
-}
-
-// The greatest common divisor of a, where the steps have led to p.
-fn reached(a: Pair, p: Pair) -> u64
-    requires { ⌜ Narrow (a .x) (a .y) × Going (a .x) (a .y) (p .x) (p .y) × (p .y ≤ 1) ⌝ }
-    ensures { λ r. ⌜ r ≡ gcdOf (a .x) (a .y) ⌝ }
-{
+    let p = parts(f);
     if p.y == 1 {
-        with_twos(a, 1)
-    } else {
-        with_twos(a, p.x)
-    }
-}
-
-// What `gcds` finds, for each of three pairs.
-struct Divisors {
-    a: u64,
-    b: u64,
-    c: u64,
-}
-
-// Three greatest common divisors in one loop. Their steps do not wait for each other, and the loop ends only once.
-fn gcds(a: Pair, b: Pair, c: Pair) -> Divisors
-    requires { ⌜ Narrow (a .x) (a .y) × Narrow (b .x) (b .y) × Narrow (c .x) (c .y) ⌝ }
-    ensures { λ r. ⌜ (r .a ≡ gcdOf (a .x) (a .y)) × (r .b ≡ gcdOf (b .x) (b .y)) × (r .c ≡ gcdOf (c .x) (c .y)) ⌝ }
-{
-    let mut p = odd(a);
-    let mut q = odd(b);
-    let mut r = odd(c);
-    while (p.y | q.y | r.y) > 1 {
-        p = step(p);
-        q = step(q);
-        r = step(r);
-    }
-    Divisors {
-        a: reached(a, p),
-        b: reached(b, q),
-        c: reached(c, r),
-    }
-}
-
-fn magnitude_wide(x: i64) -> u64
-    requires { ⌜ natAbs x < 9223372036854775808 ⌝ }
-    ensures { λ r. ⌜ r ≡ natAbs x ⌝ }
-{
-    if x < 0 { (0 - x) as u64 } else { x as u64 }
-}
-
-fn magnitude(x: i32) -> u32
-    ensures { λ r. ⌜ r ≡ natAbs x ⌝ }
-{
-    magnitude_wide(x as i64) as u32
-}
-
-// A sign, true for negative, and a magnitude as one number.
-fn signed(neg: bool, m: u64) -> i32
-    requires { ⌜ m ≤ limit ⌝ }
-    ensures { λ r. ⌜ r ≡ withSign neg m ⌝ }
-{
-    let p = m as i32;
-    if neg { 0 - p } else { p }
-}
-
-// Whole products of numbers of 32 bits.
-fn wide(a: u32, b: u32) -> u64
-    ensures { λ r. ⌜ r ≡ a * b ⌝ }
-{
-    (a as u64) * (b as u64)
-}
-
-fn wide_signed(n: i32, d: u32) -> i64
-    ensures { λ r. ⌜ r ≡ n *ℤ pos d ⌝ }
-{
-    (n as i64) * (d as i64)
-}
-
-// Whether p / d has no common divisors. A whole number needs no greatest common divisor.
-fn lowest_terms(p: u32, d: u32) -> bool
-    ensures { λ r. ⌜ r ≡ eqb (gcdOf p d) 1 ⌝ }
-{
-    if d == 1 {
         true
     } else {
-        gcd(p as u64, d as u64) == 1
-    }
-}
-
-// Whether a pair is a fraction if it is in lowest terms.
-fn is_shaped(f: Fraction) -> bool
-    ensures { λ r. ⌜ r ≡ isShaped f ⌝ }
-{
-    let n = f.num;
-    let d = f.den;
-    if d <= 0 {
-        false
-    } else {
-        (magnitude(n) as u64) <= LIMIT
+        divisors::gcd(p.x, p.y) == 1
     }
 }
 
@@ -243,8 +49,8 @@ fn is_shaped(f: Fraction) -> bool
 fn is_fraction(f: Fraction) -> bool
     ensures { λ r. ⌜ r ≡ isFraction f ⌝ }
 {
-    if is_shaped(f) {
-        lowest_terms(magnitude(f.num), magnitude(f.den))
+    if arithmetic::is_shaped(f) {
+        is_lowest(f)
     } else {
         false
     }
@@ -254,27 +60,26 @@ fn is_fraction(f: Fraction) -> bool
 fn both_shaped(a: Fraction, b: Fraction) -> bool
     ensures { λ r. ⌜ r ≡ isShaped a && isShaped b ⌝ }
 {
-    if is_shaped(a) { is_shaped(b) } else { false }
+    if arithmetic::is_shaped(a) {
+        arithmetic::is_shaped(b)
+    } else {
+        false
+    }
 }
 
-// Whether p / d and q / e have no common divisors. Where neither is whole, one loop tells it of both.
-fn both_lowest(p: u32, d: u32, q: u32, e: u32) -> bool
-    requires { ⌜ (0 < d) × (0 < e) ⌝ }
-    ensures { λ r. ⌜ r ≡ eqb (gcdOf p d) 1 && eqb (gcdOf q e) 1 ⌝ }
+// Whether two pairs have no common divisors. Where neither is whole, one loop tells it of both.
+fn both_lowest(a: Fraction, b: Fraction) -> bool
+    ensures { λ r. ⌜ r ≡ inLowestTerms a && inLowestTerms b ⌝ }
 {
-    if d == 1 {
-        return lowest_terms(q, e);
+    let p = parts(a);
+    let q = parts(b);
+    if p.y == 1 {
+        return is_lowest(b);
     }
-    if e == 1 {
-        return lowest_terms(p, d);
+    if q.y == 1 {
+        return is_lowest(a);
     }
-    if p == 0 {
-        return false;
-    }
-    if q == 0 {
-        return false;
-    }
-    let v = gcds(paired(p, d), paired(q, e), Pair { x: 1, y: 1 });
+    let v = divisors::gcds(p, q, Pair { x: 1, y: 1 });
     if v.a == 1 { v.b == 1 } else { false }
 }
 
@@ -283,50 +88,22 @@ fn both(a: Fraction, b: Fraction) -> bool
     ensures { λ r. ⌜ r ≡ isFraction a && isFraction b ⌝ }
 {
     if both_shaped(a, b) {
-        both_lowest(
-            magnitude(a.num),
-            magnitude(a.den),
-            magnitude(b.num),
-            magnitude(b.den),
-        )
+        both_lowest(a, b)
     } else {
         false
     }
 }
 
-// A quotient that is in lowest terms already, if it is within the limit.
-fn within(neg: bool, n: u64, d: u64) -> Arithmetic
-    ensures { λ r. ⌜ arithmeticSays r ≡ withinOf (over (withSign neg n) d) ⌝ }
-{
-    if n > LIMIT {
-        return Arithmetic::TooWide;
-    }
-    if d > LIMIT {
-        return Arithmetic::TooWide;
-    }
-    Arithmetic::Value(Fraction {
-        num: signed(neg, n),
-        den: signed(false, d),
-    })
-}
+// ---- product and sum
 
-// n / d, negated if asked, brought to lowest terms. No fraction has the denominator 0.
-pub fn reduced(negative: bool, n: u64, d: u64) -> Arithmetic
-    ensures { λ r. ⌜ arithmeticSays r ≡ reducedOf negative n d ⌝ }
+// The result q of a and b brought to lowest terms, if a and b are in lowest terms: three greatest common divisors in one loop.
+fn lowest_together(a: Fraction, b: Fraction, q: Ratio) -> Arithmetic
+    requires { ⌜ 0 < q .bottom ⌝ }
+    ensures { λ r. ⌜ arithmeticSays r ≡ onFractions (inLowestTerms a && inLowestTerms b) (withinOf (lowest (ratioOf q))) ⌝ }
 {
-    if d == 0 {
-        return Arithmetic::NotAFraction;
-    }
-    let g = gcd(n, d);
-    within(negative, n / g, d / g)
-}
-
-// The quotient c, negated if asked, brought to lowest terms, if the quotients a and b are in lowest terms.
-fn lowest_after(a: Pair, b: Pair, neg: bool, c: Pair) -> Arithmetic
-    requires { ⌜ Narrow (a .x) (a .y) × Narrow (b .x) (b .y) × Narrow (c .x) (c .y) ⌝ }
-    ensures { λ r. ⌜ arithmeticSays r ≡ onFractions (eqb (gcdOf (a .x) (a .y)) 1 && eqb (gcdOf (b .x) (b .y)) 1) (withinOf (lowest (over (withSign neg (c .x)) (c .y)))) ⌝ }
-{
-    let v = gcds(a, b, c);
+    let n = q.top;
+    let d = q.bottom;
+    let v = divisors::gcds(parts(a), parts(b), Pair { x: n, y: d });
     if v.a != 1 {
         return Arithmetic::NotAFraction;
     }
@@ -334,100 +111,69 @@ fn lowest_after(a: Pair, b: Pair, neg: bool, c: Pair) -> Arithmetic
         return Arithmetic::NotAFraction;
     }
     let g = v.c;
-    within(neg, c.x / g, c.y / g)
+    arithmetic::within(q.negative, n / g, d / g)
 }
 
-// n / (d * e), negated if asked, brought to lowest terms, if p / d and q / e are in lowest terms.
-fn worked_out(p: u32, d: u32, q: u32, e: u32, neg: bool, n: u64) -> Arithmetic
-    requires { ⌜ Worked p d q e n ⌝ }
-    ensures { λ r. ⌜ arithmeticSays r ≡ onFractions (eqb (gcdOf p d) 1 && eqb (gcdOf q e) 1) (withinOf (lowest (over (withSign neg n) (d * e)))) ⌝ }
+// Whether a pair is in lowest terms, where the common divisors of its parts divide g.
+fn is_lowest_by(g: u64, f: Fraction) -> bool
+    requires { ⌜ (0 < g) × (gcdOf (natAbs (f .num)) (natAbs (f .den)) ∣ g) ⌝ }
+    ensures { λ r. ⌜ r ≡ inLowestTerms f ⌝ }
 {
-    if n != 0 {
-        let c = Pair {
-            x: n,
-            y: wide(d, e),
-        };
-        return lowest_after(paired(p, d), paired(q, e), neg, c);
+    let p = parts(f);
+    let h = divisors::gcd(p.x % g, g);
+    if h == 1 {
+        return true;
     }
-    if both_lowest(p, d, q, e) {
-        within(neg, 0, 1)
-    } else {
-        Arithmetic::NotAFraction
-    }
+    divisors::gcd(p.y % h, h) == 1
 }
 
-// n / d times m / e.
-fn times(n: i32, d: u32, m: i32, e: u32) -> Arithmetic
-    requires { ⌜ Shaped n d × Shaped m e ⌝ }
-    ensures { λ r. ⌜ arithmeticSays r ≡ onFractions (lowestTerms n d && lowestTerms m e) (withinOf (lowest (over n d *Q over m e))) ⌝ }
+// The result q of a and b brought to lowest terms by g, the greatest common divisor of its parts, if a and b are in lowest
+// terms.
+fn lowest_by(a: Fraction, b: Fraction, q: Ratio, g: u64) -> Arithmetic
+    requires { ⌜ ResultOf a b q × (g ≡ gcdOf (q .top) (q .bottom)) ⌝ }
+    ensures { λ r. ⌜ arithmeticSays r ≡ onFractions (inLowestTerms a && inLowestTerms b) (withinOf (lowest (ratioOf q))) ⌝ }
 {
-    let neg = (n < 0) != (m < 0);
-    let p = magnitude(n);
-    let q = magnitude(m);
+    if is_lowest_by(g, a) {
+        if is_lowest_by(g, b) {
+            return arithmetic::within(q.negative, q.top / g, q.bottom / g);
+        }
+    }
+    Arithmetic::NotAFraction
+}
+
+// The greatest common divisor of the parts of a result.
+fn divisor_of(q: Ratio) -> u64
+    requires { ⌜ 0 < q .bottom ⌝ }
+    ensures { λ r. ⌜ r ≡ gcdOf (q .top) (q .bottom) ⌝ }
+{
+    let d = q.bottom;
     if d == 1 {
-        if e == 1 {
-            return within(neg, wide(p, q), 1);
-        }
+        return 1;
     }
-    worked_out(p, d, q, e, neg, wide(p, q))
+    divisors::gcd(q.top % d, d)
 }
 
-// n * e + m * d.
-fn cross_sum(n: i32, e: u32, m: i32, d: u32) -> i64
-    requires { ⌜ ((natAbs n ≤ limit) × (e ≤ limit)) × ((natAbs m ≤ limit) × (d ≤ limit)) ⌝ }
-    ensures { λ r. ⌜ (r ≡ n *ℤ pos e +ℤ m *ℤ pos d) × (natAbs r < 9223372036854775808) ⌝ }
+// The result q of a and b brought to lowest terms, if a and b are in lowest terms. What divides both parts of an operand
+// divides both parts of the result: a result in lowest terms shows that the operands are.
+fn lowest_result(a: Fraction, b: Fraction, q: Ratio) -> Arithmetic
+    requires { ⌜ ResultOf a b q ⌝ }
+    ensures { λ r. ⌜ arithmeticSays r ≡ onFractions (inLowestTerms a && inLowestTerms b) (withinOf (lowest (ratioOf q))) ⌝ }
 {
-    wide_signed(n, e) + wide_signed(m, d)
-}
-
-// n plus m / e, n a whole number: no common divisors are to be divided out.
-fn plus_whole(n: i32, m: i32, e: u32) -> Arithmetic
-    requires { ⌜ (natAbs n ≤ limit) × Parts m e ⌝ }
-    ensures { λ r. ⌜ arithmeticSays r ≡ withinOf (lowest (over n 1 +Q over m e)) ⌝ }
-{
-    let t = cross_sum(n, e, m, 1);
-    within(t < 0, magnitude_wide(t), e as u64)
-}
-
-// n / d plus m / e, neither of them a whole number. 0 is whole.
-fn plus_fractions(n: i32, d: u32, m: i32, e: u32) -> Arithmetic
-    requires { ⌜ (Shaped n d × Shaped m e) × ((1 < d) × (1 < e)) ⌝ }
-    ensures { λ r. ⌜ arithmeticSays r ≡ onFractions (lowestTerms n d && lowestTerms m e) (withinOf (lowest (over n d +Q over m e))) ⌝ }
-{
-    let p = magnitude(n);
-    let q = magnitude(m);
-    if wide(p, q) == 0 {
-        return Arithmetic::NotAFraction;
+    if q.bottom > WIDE {
+        return lowest_together(a, b, q);
     }
-    let t = cross_sum(n, e, m, d);
-    worked_out(p, d, q, e, t < 0, magnitude_wide(t))
-}
-
-// n / d plus m / e.
-fn plus(n: i32, d: u32, m: i32, e: u32) -> Arithmetic
-    requires { ⌜ Shaped n d × Shaped m e ⌝ }
-    ensures { λ r. ⌜ arithmeticSays r ≡ onFractions (lowestTerms n d && lowestTerms m e) (withinOf (lowest (over n d +Q over m e))) ⌝ }
-{
-    if d == 1 {
-        if lowest_terms(magnitude(m), e) {
-            return plus_whole(n, m, e);
-        }
-        return Arithmetic::NotAFraction;
+    let g = divisor_of(q);
+    if g == 1 {
+        return arithmetic::within(q.negative, q.top, q.bottom);
     }
-    if e == 1 {
-        if lowest_terms(magnitude(n), d) {
-            return plus_whole(m, n, d);
-        }
-        return Arithmetic::NotAFraction;
-    }
-    plus_fractions(n, d, m, e)
+    lowest_by(a, b, q, g)
 }
 
 pub fn product(a: Fraction, b: Fraction) -> Arithmetic
     ensures { λ r. ⌜ arithmeticSays r ≡ productOf a b ⌝ }
 {
     if both_shaped(a, b) {
-        times(a.num, magnitude(a.den), b.num, magnitude(b.den))
+        lowest_result(a, b, arithmetic::multiplied(a, b))
     } else {
         Arithmetic::NotAFraction
     }
@@ -437,155 +183,51 @@ pub fn sum(a: Fraction, b: Fraction) -> Arithmetic
     ensures { λ r. ⌜ arithmeticSays r ≡ sumOf a b ⌝ }
 {
     if both_shaped(a, b) {
-        plus(a.num, magnitude(a.den), b.num, magnitude(b.den))
+        lowest_result(a, b, arithmetic::added(a, b))
     } else {
         Arithmetic::NotAFraction
     }
 }
 
-// Whether a pair is a whole number within the limit.
-fn is_whole(f: Fraction) -> bool
-    ensures { λ r. ⌜ r ≡ isShaped f && eqb (natAbs (f .den)) 1 ⌝ }
+// n / d, negated if asked, brought to lowest terms. No fraction has the denominator 0.
+pub fn reduced(negative: bool, n: u64, d: u64) -> Arithmetic
+    ensures { λ r. ⌜ arithmeticSays r ≡ reducedOf negative n d ⌝ }
 {
-    if is_shaped(f) {
-        magnitude(f.den) == 1
-    } else {
-        false
-    }
-}
-
-// n * m.
-fn multiplied(n: i32, m: i32) -> i64
-    requires { ⌜ (natAbs n ≤ limit) × (natAbs m ≤ limit) ⌝ }
-    ensures { λ r. ⌜ (r ≡ n *ℤ m) × (natAbs r < 9223372036854775808) ⌝ }
-{
-    (n as i64) * (m as i64)
-}
-
-// s + w.
-fn added(s: i32, w: i64) -> i64
-    requires { ⌜ (natAbs s ≤ limit) × (natAbs w ≤ limit) ⌝ }
-    ensures { λ r. ⌜ (r ≡ s +ℤ w) × (natAbs r < 9223372036854775808) ⌝ }
-{
-    (s as i64) + w
-}
-
-// s + n * m, whole numbers.
-fn add_product_whole(s: i32, n: i32, m: i32) -> Arithmetic
-    requires { ⌜ (natAbs s ≤ limit) × (natAbs n ≤ limit) × (natAbs m ≤ limit) ⌝ }
-    ensures { λ r. ⌜ arithmeticSays r ≡ after (withinOf (over (n *ℤ m) 1)) (λ p. withinOf (over (s +ℤ p .num) 1)) ⌝ }
-{
-    let w = multiplied(n, m);
-    if magnitude_wide(w) > LIMIT {
-        return Arithmetic::TooWide;
-    }
-    let t = added(s, w);
-    within(t < 0, magnitude_wide(t), 1)
-}
-
-// The sum with a fraction p, which is not tested again.
-fn add_known(s: Fraction, p: Fraction) -> Arithmetic
-    requires { ⌜ IsFraction p ⌝ }
-    ensures { λ r. ⌜ arithmeticSays r ≡ sumOf s p ⌝ }
-{
-    if is_whole(s) {
-        plus_whole(s.num, p.num, magnitude(p.den))
-    } else {
-        sum(s, p)
-    }
-}
-
-// s + a * 0.
-fn add_zero(s: Fraction, a: Fraction) -> Arithmetic
-    ensures { λ r. ⌜ arithmeticSays r ≡ addProductOf s a zeroF ⌝ }
-{
-    if both(a, s) {
-        Arithmetic::Value(s)
-    } else {
-        Arithmetic::NotAFraction
-    }
-}
-
-// s + a * b, of any fractions.
-fn add_product_any(s: Fraction, a: Fraction, b: Fraction) -> Arithmetic
-    ensures { λ r. ⌜ arithmeticSays r ≡ addProductOf s a b ⌝ }
-{
-    let product = product(a, b);
-    match product {
-        Arithmetic::Value(p) => add_known(s, p),
-        Arithmetic::NotAFraction => Arithmetic::NotAFraction,
-        Arithmetic::TooWide => Arithmetic::TooWide,
-    }
+    arithmetic::reduced(negative, n, d)
 }
 
 // A sum and a product more: a * b, then sum + a * b, each brought to lowest terms within the limit.
 pub fn add_product(sum: Fraction, a: Fraction, b: Fraction) -> Arithmetic
     ensures { λ r. ⌜ arithmeticSays r ≡ addProductOf sum a b ⌝ }
 {
-    if is_whole(b) {
-        if b.num == 0 {
-            return add_zero(sum, a);
-        }
-        if is_whole(a) {
-            if is_whole(sum) {
-                return add_product_whole(sum.num, a.num, b.num);
-            }
-        }
-    }
-    add_product_any(sum, a, b)
-}
-
-// The numerator of a times the denominator of b.
-fn cross(a: Fraction, b: Fraction) -> i64
-    ensures { λ r. ⌜ r ≡ a .num *ℤ pos (natAbs (b .den)) ⌝ }
-{
-    wide_signed(a.num, magnitude(b.den))
-}
-
-fn ordered(x: i64, y: i64) -> Comparison
-    ensures { λ r. ⌜ comparisonSays r ≡ gives (order x y) ⌝ }
-{
-    if x < y {
-        Comparison::Less
-    } else if y < x {
-        Comparison::Greater
+    let p = product(a, b);
+    let Arithmetic::Value(v) = p else {
+        return p;
+    };
+    if is_fraction(sum) {
+        arithmetic::sum(sum, v)
     } else {
-        Comparison::Equal
+        Arithmetic::NotAFraction
     }
 }
+
+// ---- comparison and rounding
 
 pub fn compare(a: Fraction, b: Fraction) -> Comparison
     ensures { λ r. ⌜ comparisonSays r ≡ compareOf a b ⌝ }
 {
     if both(a, b) {
-        ordered(cross(a, b), cross(b, a))
+        arithmetic::compare(a, b)
     } else {
         Comparison::NotAFraction
     }
-}
-
-// n / d rounded down. The signed division rounds toward zero, so a negative remainder takes one more off.
-fn floor_of(n: i32, d: i32) -> i32
-    requires { ⌜ pos 0 <ℤ d ⌝ }
-    ensures { λ r. ⌜ r ≡ floorZ n (natAbs d) ⌝ }
-{
-    let q = n / d;
-    if n % d < 0 { q - 1 } else { q }
-}
-
-// n / d rounded up: -n / d rounded down, negated.
-fn ceiling_of(n: i32, d: i32) -> i32
-    requires { ⌜ (pos 0 <ℤ d) × (natAbs n ≤ limit) ⌝ }
-    ensures { λ r. ⌜ r ≡ ceilingZ n (natAbs d) ⌝ }
-{
-    0 - floor_of(0 - n, d)
 }
 
 pub fn floor(a: Fraction) -> Rounding
     ensures { λ r. ⌜ roundingSays r ≡ floorOf a ⌝ }
 {
     if is_fraction(a) {
-        Rounding::Whole(floor_of(a.num, a.den))
+        arithmetic::floor(a)
     } else {
         Rounding::NotAFraction
     }
@@ -595,7 +237,7 @@ pub fn ceiling(a: Fraction) -> Rounding
     ensures { λ r. ⌜ roundingSays r ≡ ceilingOf a ⌝ }
 {
     if is_fraction(a) {
-        Rounding::Whole(ceiling_of(a.num, a.den))
+        arithmetic::ceiling(a)
     } else {
         Rounding::NotAFraction
     }

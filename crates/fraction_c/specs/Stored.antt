@@ -4,9 +4,9 @@
 use mathlib.Core.Path.{_≡_}
 use Prim.Native.Nat.{ℕ}
 use lib.IntN.{ℤ, pos, negsuc}
-use Rattle.fraction.specs.Outcome.{Outcome, gives, refuses}
-use Rattle.fraction.specs.Fraction.{Order, less, equal, greater}
-use Rattle.fraction.specs.declared.Fraction.{Fraction}
+use Rattle.arithmetic.specs.Outcome.{Outcome, gives, refuses}
+use Rattle.arithmetic.specs.Fraction.{Order, less, equal, greater}
+use Rattle.arithmetic.specs.declared.Fraction.{Fraction}
 
 -- the number that is returned
 abbrev pub status : {A : Type 0} → Outcome A → ℕ

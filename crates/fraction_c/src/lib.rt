@@ -1,6 +1,6 @@
 // The arithmetic of `fraction` for C: operands by value, the result through pointers, and as what is returned 0 or 01's
 // number of the refusal, on which nothing is stored. include/fraction.h declares the functions.
-ghost use Rattle.fraction.specs.Fraction.{productOf, sumOf, compareOf, floorOf, ceilingOf, arithmeticSays, comparisonSays, roundingSays};
+ghost use Rattle.arithmetic.specs.Fraction.{productOf, sumOf, compareOf, floorOf, ceilingOf, arithmeticSays, comparisonSays, roundingSays};
 ghost use Rattle.fraction_c.specs.Stored.{Stored, pair, signOf};
 use fraction::Arithmetic;
 use fraction::Comparison;

@@ -7,7 +7,7 @@ use Prim.Native.Nat.{ℕ, _+_}
 use lib.ListN.{length}
 use Rattle.text.specs.Bytes.{Bytes}
 use Rattle.text.specs.Tokens.{Token}
-use Rattle.fraction.specs.declared.Fraction.{Fraction}
+use Rattle.arithmetic.specs.declared.Fraction.{Fraction}
 use Rattle.grammar.specs.Tree.{Tree, Integers, Objective, Constraints, Relation, Solutions, Derivations, Derivation, Solution}
 use Rattle.grammar.specs.Format.{Or, instead, given, Symbol, word, placed, choice, number, name, rowName, value, or, Format, symbol, then, items, nothing, view}
 use Rattle.grammar.specs.Certificate.{pair, pairList, termList, listedTerms, side, row, rowNames, ReasonWord, asmWord, linWord, rndWord, unsWord, solWord, detail, derivation, solution, ClaimWord, infeasWord, rangeWord, ends, section, version, variables, integers, objectiveSection, constraints, relation, solutionSection, derivationSection, certificate}

@@ -10,7 +10,7 @@ use lib.ListN.{length}
 use Rattle.text.specs.Bytes.{Bytes}
 use Rattle.text.specs.Tokens.{Token}
 use Rattle.text.specs.Words as W
-use Rattle.fraction.specs.declared.Fraction.{Fraction}
+use Rattle.arithmetic.specs.declared.Fraction.{Fraction}
 use Rattle.grammar.specs.Tree.{Variables, Integers, Term, TermList, Direction, minimize, maximize, Objective, Sense, equal, atMost, atLeast, Side, obj, listed, Row, Constraints, End, infinite, finite, Claim, infeas, range, Relation, Solution, Solutions, Multiplier, MultiplierList, Unsplit, Reason, asm, lin, rnd, uns, sol, Last, never, index, Derivation, Derivations, Tree}
 use Rattle.grammar.specs.Format.{Word, Or, instead, given, word, placed, choice, number, name, rowName, value, or, Format, symbol, then, items, nothing, view}
 

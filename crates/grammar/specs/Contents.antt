@@ -8,7 +8,7 @@ use native.Mathlib.Nat.{add-zero}
 use native.Mathlib.Omega.{arith}
 use lib.ListN.{length, length-append}
 use Rattle.text.specs.Bytes.{Bytes}
-use Rattle.fraction.specs.declared.Fraction.{Fraction}
+use Rattle.arithmetic.specs.declared.Fraction.{Fraction}
 use Rattle.grammar.specs.Tree.{Integers, Term, TermList, Objective, Side, obj, listed, Row, Constraints, End, infinite, finite, Claim, infeas, range, Solution, Solutions, Multiplier, MultiplierList, Reason, asm, lin, rnd, uns, sol, Last, never, index, Derivation, Derivations, Tree}
 use Rattle.grammar.specs.Format.{Or, instead, given, Symbol, word, placed, choice, number, name, rowName, value, or, Format, symbol, then, items, nothing, view}
 use Rattle.grammar.specs.Certificate.{Pair, pair, pairList, ofTerm, ofMultiplier, termList, sense, senseCell, Listed, listedTerms, side, row, rowNames, multiplierList, ReasonWord, assumptions, asmWord, linWord, rndWord, unsWord, solWord, detail, Detail, reason, last, derivation, solution, endOr, ClaimWord, infeasWord, rangeWord, claimCell, ofClaim, Ends, ends, claim, directionCell, section, variables, integers, objectiveSection, constraints, relation, solutionSection, derivationSection, certificate}

@@ -11,8 +11,8 @@ use Rattle.text.specs.Bytes.{Bytes, isSeparator, isPrintable, isDigit}
 use Rattle.text.specs.Ascii.{ascii}
 use Rattle.text.specs.Comments.{commentsEnd}
 use Rattle.text.specs.Tokens.{Token, rest, streamAt}
-use Rattle.fraction.specs.Quotient.{lowest}
-use Rattle.fraction.specs.declared.Fraction.{Fraction}
+use Rattle.arithmetic.specs.Quotient.{lowest}
+use Rattle.arithmetic.specs.declared.Fraction.{Fraction}
 use Rattle.integers.specs.Gcd.{gcd, euclid}
 use Rattle.value.specs.Spelling.{quotientOf}
 use Rattle.value.specs.Reading.{readValue, outcomeOf, narrowed}

@@ -13,8 +13,8 @@ use Rattle.text.specs.BytesLaws.{clash}
 use Rattle.text.specs.Tokens.{Token, isTokenByte, isEnded, FirstToken, HasTokens, TextHasTokens}
 use Rattle.text.specs.TokensLaws.{first-byte}
 use Rattle.text.specs.Words as W
-use Rattle.fraction.specs.Fraction.{IsFraction}
-use Rattle.fraction.specs.declared.Fraction.{Fraction}
+use Rattle.arithmetic.specs.Fraction.{IsFraction}
+use Rattle.arithmetic.specs.declared.Fraction.{Fraction}
 use Rattle.value.specs.Spelling.{SpellsValue}
 use Rattle.value.specs.Agreement.{value-read}
 use Rattle.grammar.specs.Tree.{Tree, Sense, Direction, Constraints, Solution}

@@ -8,7 +8,7 @@ use mathlib.Core.List.{List}
 use Prim.Native.Nat.{ℕ}
 use Rattle.text.specs.Bytes.{Bytes}
 use Rattle.text.specs.Tokens.{Token}
-use Rattle.fraction.specs.declared.Fraction.{Fraction}
+use Rattle.arithmetic.specs.declared.Fraction.{Fraction}
 
 -- a word that stands for something
 pub record Word (A : Type 0) : Type 0 where

@@ -11,7 +11,7 @@ use lib.Seq.{slice, drop-drop, drop-at, take-at}
 use Rattle.text.specs.Bytes.{Bytes}
 use Rattle.text.specs.BytesLaws.{slice-take}
 use Rattle.text.specs.Tokens.{Token, FirstToken, HasTokens, TextHasTokens}
-use Rattle.fraction.specs.declared.Fraction.{Fraction}
+use Rattle.arithmetic.specs.declared.Fraction.{Fraction}
 use Rattle.grammar.specs.Tree.{Tree}
 use Rattle.grammar.specs.Format.{instead, given, Symbol, word, placed, choice, number, name, rowName, value, or, Format, symbol, then, items, nothing, view}
 use Rattle.grammar.specs.Spelling.{SymbolSpelled, ItemsSpelled, Spells}

@@ -11,7 +11,7 @@ use lib.Seq.{slice, take-at, drop-at, getD-append-add}
 use Rattle.text.specs.Bytes.{Bytes}
 use Rattle.text.specs.BytesLaws.{slice-take}
 use Rattle.text.specs.Tokens.{Token}
-use Rattle.fraction.specs.declared.Fraction.{Fraction}
+use Rattle.arithmetic.specs.declared.Fraction.{Fraction}
 use Rattle.grammar.specs.Format.{rowName, Format, symbol, then, items, view}
 use Rattle.grammar.specs.Layout.{Mark, gatherItems, gather, cells, values, marksItems, marks}
 

@@ -14,7 +14,7 @@ use lib.ListN.{length, getD, take, drop, set, replicate, length-replicate, lengt
 use lib.Seq.{getD-set-other, sets, sets-eq, length-sets, length-take-le}
 use Rattle.text.specs.Bytes.{Bytes}
 use Rattle.text.specs.Tokens.{Token}
-use Rattle.fraction.specs.declared.Fraction.{Fraction}
+use Rattle.arithmetic.specs.declared.Fraction.{Fraction}
 use Rattle.grammar.specs.Tree.{Row, Solution, Derivation, Tree}
 use Rattle.grammar.specs.Format.{Format}
 use Rattle.grammar.specs.Certificate.{rowNames, constraints, solutionSection, derivationSection, certificate}

@@ -9,7 +9,7 @@ use Rattle.text.specs.Bytes.{Bytes}
 use Rattle.text.specs.Comments.{commentsEnd}
 use Rattle.text.specs.Tokens.{Token, Stream, end, token, join, listed, rest, tokensOf, TextHasTokens}
 use Rattle.text.specs.TokensLaws.{listed-join, rest-is, text-tokens, text-tokens-only}
-use Rattle.fraction.specs.declared.Fraction.{Fraction}
+use Rattle.arithmetic.specs.declared.Fraction.{Fraction}
 use Rattle.grammar.specs.Tree.{Tree}
 use Rattle.grammar.specs.Spelling.{Spells}
 use Rattle.grammar.specs.Certificate.{certificate}

@@ -10,7 +10,7 @@ use Rattle.text.specs.Ascii.{ascii}
 use Rattle.text.specs.Comments.{commentsEnd}
 use Rattle.text.specs.Tokens.{rest, streamAt}
 use Rattle.text.specs.Lines.{lineOf}
-use Rattle.fraction.specs.Quotient.{lowest}
+use Rattle.arithmetic.specs.Quotient.{lowest}
 use Rattle.integers.specs.Gcd.{gcd, euclid}
 use Rattle.value.specs.Spelling.{quotientOf}
 use Rattle.value.specs.Reading.{readValue, outcomeOf, narrowed}

@@ -2,16 +2,17 @@
 -- Assumes nothing.
 use mathlib.Core.Path.{_≡_, refl, sym, _∙_, ap, subst}
 use mathlib.Core.Bool.{Bool, true, false, not}
-use Prim.Native.Nat.{ℕ, zero, suc, _*_, _^_, _≤_, _<_}
+use Prim.Native.Nat.{ℕ, zero, suc, _+_, _*_, _-_, _^_, _≤_, _<_}
 use native.Mathlib.Nat.{lt-of-le-of-lt, mul-le-mul}
 use native.Mathlib.Omega.{arith}
+use borrow.Author.Tests.{lt-ltb}
 use lib.Dec.{T, leb·zero, leb·suc-zero, leb·suc-suc, lit<}
-use lib.IntN.{ℤ, pos, negsuc, negℤ, natAbs, _-ℤ_, _*ℤ_, +ℤ-idl}
+use lib.IntN.{ℤ, pos, negsuc, negℤ, natAbs, subℕ, _+ℤ_, _-ℤ_, _*ℤ_, +ℤ-idl}
 use lib.Signed.{mag, ltZ, leZ, nonNeg}
 use mir.Syntax.{w32, w64}
 use mir.Val.{Fits, SFits, toZ, ofZ}
 use mir.Facts.{toZ-ofZ, toZ-pos, sfits-widen}
-use Rattle.integers.specs.Signs.{isNegative, natAbs-mul, natAbs-mag, mag-natAbs}
+use Rattle.integers.specs.Signs.{isNegative, natAbs-mul, natAbs-sub, natAbs-mag, mag-natAbs}
 
 -- ---- reading back
 
@@ -64,6 +65,24 @@ mag-neg (pos zero) = omega arith
 mag-neg (pos (suc n)) = omega arith
 mag-neg (negsuc n) = omega arith
 
+-- a negative number is one less than the negation of its rest, which is one less than its magnitude and always fits
+pub record Negative (z : ℤ) : Type 0 where
+  pub rest : ℕ
+  pub next : z +ℤ pos 1 ≡ negℤ (pos rest)
+  pub size : natAbs z ≡ rest + 1
+  pub small : rest < 9223372036854775808
+
+pub negative : (z : ℤ) → isNegative z ≡ true → mag z < 9223372036854775808 → Negative z
+negative (pos n) e h = absurd (subst (λ (b : Bool). T (not b)) e tt)
+negative (negsuc zero) e h = record { rest = 0; next = refl; size = refl; small = omega arith }
+negative (negsuc (suc n)) e h =
+    let below : suc (suc n) - 2 ≡ n = omega arith in
+    record { rest = suc n; next = rw (lt-ltb 1 (suc (suc n)) (omega arith)) (ap negsuc below); size = omega arith; small = omega arith }
+
+pub minus-negation : (m : ℕ) → pos 0 -ℤ negℤ (pos m) ≡ pos m
+minus-negation zero = refl
+minus-negation (suc m) = +ℤ-idl (pos (suc m))
+
 pub neg-fits : (z : ℤ) → natAbs z < 9223372036854775808 → SFits w64 (negℤ z)
 neg-fits z h = record { sfits = omega (arith, mag-neg z) }
 
@@ -101,3 +120,34 @@ product-fits-signed x b f h =
     let j : b ≤ 4294967295 = omega arith in
     let n : natAbs (x *ℤ pos b) ≤ 2147483648 * 4294967295 = rw (natAbs-mul x (pos b)) (mul-le-mul (natAbs-small x f) j) in
     record { sfits = omega (arith, mag-natAbs (x *ℤ pos b)) }
+
+-- ---- and so do products of two i32, and sums of such products
+
+pub product-of-two-fits : (x y : ℤ) → SFits w32 x → SFits w32 y → SFits w64 (x *ℤ y)
+product-of-two-fits x y f g =
+    let n : natAbs (x *ℤ y) ≤ 2147483648 * 2147483648 = rw (natAbs-mul x y) (mul-le-mul (natAbs-small x f) (natAbs-small y g)) in
+    record { sfits = omega (arith, mag-natAbs (x *ℤ y)) }
+
+mag-neg-pos : (m : ℕ) → mag (negℤ (pos m)) ≤ m - 1
+mag-neg-pos zero = omega arith
+mag-neg-pos (suc m) = omega arith
+
+pub product-mag : (x : ℤ) (b : ℕ) → SFits w32 x → b ≤ 2147483648 → mag (x *ℤ pos b) < 4611686018427387904
+product-mag (pos n) b f h =
+    let i : n ≤ 2147483647 = omega (arith, f .sfits) in
+    omega (arith, mul-le-mul i h)
+product-mag (negsuc n) b f h =
+    let i : suc n ≤ 2147483648 = omega (arith, f .sfits) in
+    omega (arith, mul-le-mul i h, mag-neg-pos (suc n * b))
+
+mag-sub : (a b : ℕ) → mag (subℕ a b) ≤ a + b
+mag-sub a b = omega (arith, mag-natAbs (subℕ a b), natAbs-sub a b)
+
+mag-add : (x y : ℤ) → mag (x +ℤ y) ≤ mag x + mag y + 1
+mag-add (pos a) (pos b) = omega arith
+mag-add (pos a) (negsuc b) = omega (arith, mag-sub a (suc b))
+mag-add (negsuc a) (pos b) = omega (arith, mag-sub b (suc a))
+mag-add (negsuc a) (negsuc b) = omega arith
+
+pub sum-fits : (x y : ℤ) → mag x < 4611686018427387904 → mag y < 4611686018427387904 → SFits w64 (x +ℤ y)
+sum-fits x y f g = record { sfits = omega (arith, mag-add x y) }

@@ -11,7 +11,7 @@ use lib.IntN.{ℤ}
 use lib.ListN.{length}
 use Rattle.text.specs.Bytes.{Bytes, same}
 use Rattle.text.specs.Tokens.{Token, Stream, end, token, rest}
-use Rattle.fraction.specs.Outcome.{Outcome, gives, refuses}
+use Rattle.arithmetic.specs.Outcome.{Outcome, gives, refuses}
 use Rattle.grammar.specs.Format.{Word, Or, instead, given, Symbol, word, placed, choice, or, Format, symbol}
 use Rattle.grammar.specs.Spelling.{meaningOf}
 use Rattle.grammar.specs.Reading.{Read, got, stopped, unless, chosen, orElse, decode, kept, readSymbol, read}

@@ -13,7 +13,7 @@ use lib.Seq.{slice, length-slice}
 use Rattle.text.specs.Bytes.{Bytes, same, every, isDigit, isNumeral, numberOf}
 use Rattle.text.specs.Tokens.{Token}
 use Rattle.text.specs.Scans.{Found}
-use Rattle.fraction.specs.Outcome.{Outcome, gives, refuses}
+use Rattle.arithmetic.specs.Outcome.{Outcome, gives, refuses}
 use Rattle.grammar.specs.Format.{Word, Symbol, number, choice, name, rowName}
 use Rattle.grammar.specs.Spelling.{isAmong, isName, meaningOf}
 use Rattle.grammar.specs.Reading.{decode}

@@ -18,8 +18,8 @@ use Rattle.text.specs.Scans.{Found, scanOf}
 use Rattle.text.specs.ScansLaws.{found, ended}
 use Rattle.text.specs.declared.Scan.{Scan}
 use Rattle.text.specs.declared.Scan.the-variants as scan
-use Rattle.fraction.specs.Outcome.{gives, refuses}
-use Rattle.fraction.specs.declared.Fraction.{Fraction}
+use Rattle.arithmetic.specs.Outcome.{gives, refuses}
+use Rattle.arithmetic.specs.declared.Fraction.{Fraction}
 use Rattle.grammar.specs.Format.{Symbol, number, value, Format, symbol, then, items, nothing, view}
 use Rattle.grammar.specs.Certificate.{countTo}
 use Rattle.grammar.specs.Reading.{Read, got, stopped, onward, decode, readSymbol, readItems, read}

@@ -10,7 +10,7 @@ use lib.ListN.{length, take, drop, set, length-append}
 use lib.Seq.{slice, sets, sets-eq, length-sets, length-take-le, drop-at, take-append-seam}
 use Rattle.text.specs.Bytes.{Bytes}
 use Rattle.text.specs.BytesLaws.{slice-take}
-use Rattle.fraction.specs.declared.Fraction.{Fraction}
+use Rattle.arithmetic.specs.declared.Fraction.{Fraction}
 use Rattle.grammar.specs.Layout.{gatherItems, Mark, marksItems}
 use Rattle.grammar.specs.Tables.{byTurns, rowOf, laid}
 use Rattle.reader.specs.Steps.{nameAt, Named}

@@ -8,7 +8,7 @@ ghost use lib.IntN.{ℤ};
 ghost use lib.ListN.{length};
 ghost use lib.Seq.{slice, sets};
 ghost use Prim.Native.Nat.{ℕ, _+_, _*_, _≤_, _<_, min};
-ghost use Rattle.fraction.specs.Outcome.{refuses};
+ghost use Rattle.arithmetic.specs.Outcome.{refuses};
 ghost use Rattle.value.specs.Promise.{valueSays};
 ghost use Rattle.grammar.specs.Refusals.{refusalNumber};
 ghost use Rattle.text.specs.Tokens.{rest};
@@ -20,7 +20,7 @@ ghost use Rattle.reader.specs.Leaves.{numeralOf, namesIn, choicesOf, pos
 use crate::Cursor;
 use crate::Step;
 use crate::names;
-use fraction::Fraction;
+use arithmetic::Fraction;
 use grammar::Refusal;
 use text::Scan;
 use value::ValueAnswer;

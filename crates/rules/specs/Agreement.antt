@@ -8,9 +8,9 @@ use Prim.Native.Nat.{ℕ}
 use native.Mathlib.Omega.{arith}
 use borrow.Author.Tests.{ltb-true, lt-ltb}
 use lib.ListN.{length}
-use Rattle.fraction.specs.Fraction.{IsFraction}
-use Rattle.fraction.specs.Meaning.{exact-positive}
-use Rattle.fraction.specs.declared.Fraction.{Fraction}
+use Rattle.arithmetic.specs.Fraction.{IsFraction}
+use Rattle.arithmetic.specs.Meaning.{exact-positive}
+use Rattle.arithmetic.specs.declared.Fraction.{Fraction}
 use Rattle.grammar.specs.Tree.{Row, Multiplier, Unsplit, Reason, asm, lin, rnd, uns, sol, Last, never, index, Derivation, Tree}
 use Rattle.rules.specs.Tests.{Decides, All, not-true, decides-not}
 use Rattle.rules.specs.Result.{Says, no-value, says-fine, says-as, says-require, says-then, says-bind, says-each, says-each-from}

@@ -7,10 +7,10 @@ use mathlib.Core.Logic.{_⊎_}
 use Prim.Native.Nat.{ℕ}
 use lib.Dec.{eqb}
 use lib.IntN.{ℤ, pos, negsuc}
-use Rattle.fraction.specs.Quotient.{Quotient, _≈_, _≤Q_, _*Q_, wholeQ}
-use Rattle.fraction.specs.Fraction.{exact}
-use Rattle.fraction.specs.Laws.{zeroF}
-use Rattle.fraction.specs.declared.Fraction.{Fraction}
+use Rattle.arithmetic.specs.Quotient.{Quotient, _≈_, _≤Q_, _*Q_, wholeQ}
+use Rattle.arithmetic.specs.Fraction.{exact}
+use Rattle.arithmetic.specs.Laws.{zeroF}
+use Rattle.arithmetic.specs.declared.Fraction.{Fraction}
 use Rattle.grammar.specs.Tree.{Term, Sense, equal, atMost, atLeast, Multiplier, Tree}
 use Rattle.rules.specs.Tests.{All, allOf, Some}
 use Rattle.rules.specs.Result.{Result, done, bind, _andThen_, require, through, Through}

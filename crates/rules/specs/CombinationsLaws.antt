@@ -5,11 +5,11 @@ use mathlib.Core.Bool.{Bool, true, false, not, cond}
 use mathlib.Core.List.{List, [], _∷_}
 use mathlib.Core.Logic.{_↔_, ⊎-elim}
 use Prim.Native.Nat.{ℕ}
-use Rattle.fraction.specs.Quotient.{_≈_, _≤Q_}
-use Rattle.fraction.specs.QuotientLaws.{≤Q-antisym}
-use Rattle.fraction.specs.Fraction.{IsFraction}
-use Rattle.fraction.specs.Laws.{zero-is}
-use Rattle.fraction.specs.declared.Fraction.{Fraction}
+use Rattle.arithmetic.specs.Quotient.{_≈_, _≤Q_}
+use Rattle.arithmetic.specs.QuotientLaws.{≤Q-antisym}
+use Rattle.arithmetic.specs.Fraction.{IsFraction}
+use Rattle.arithmetic.specs.Laws.{zero-is}
+use Rattle.arithmetic.specs.declared.Fraction.{Fraction}
 use Rattle.grammar.specs.Tree.{Term, Sense, equal, atMost, atLeast, Multiplier, Tree}
 use Rattle.rules.specs.Tests.{Decides, All, Some, allOf, fails, failed, decides-or, decides-all, not-all}
 use Rattle.rules.specs.Result.{Gives, Through, says-require, gives-as, gives-done, gives-then, gives-bind, gives-through}

@@ -5,7 +5,7 @@ use mathlib.Core.List.{List, [], _∷_, map}
 use mathlib.Core.Option.{Option, none, some}
 use Prim.Native.Nat.{ℕ, _<_}
 use lib.Dec.{ltb}
-use Rattle.fraction.specs.declared.Fraction.{Fraction}
+use Rattle.arithmetic.specs.declared.Fraction.{Fraction}
 use Rattle.grammar.specs.Tree.{Row, Multiplier, Unsplit, Reason, asm, lin, rnd, uns, sol, Last, never, index, Derivation, Tree}
 use Rattle.rules.specs.Tests.{All}
 use Rattle.rules.specs.Result.{Verdict, fine, refused, bind, _andThen_, require, each}

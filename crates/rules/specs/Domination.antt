@@ -4,9 +4,9 @@
 use mathlib.Core.Bool.{Bool, false, not, _&&_, _||_}
 use mathlib.Core.Logic.{_⊎_}
 use Prim.Native.Nat.{ℕ}
-use Rattle.fraction.specs.Quotient.{_≈_, _<Q_}
-use Rattle.fraction.specs.Fraction.{exact}
-use Rattle.fraction.specs.declared.Fraction.{Fraction}
+use Rattle.arithmetic.specs.Quotient.{_≈_, _<Q_}
+use Rattle.arithmetic.specs.Fraction.{exact}
+use Rattle.arithmetic.specs.declared.Fraction.{Fraction}
 use Rattle.grammar.specs.Tree.{Sense, equal, atMost, atLeast}
 use Rattle.rules.specs.Tests.{EveryBelow, everyBelow}
 use Rattle.rules.specs.Values.{zeroQ, isZero, isPositive, isNegative, AtMost, Same, isAtMost, isSame}

@@ -2,9 +2,9 @@
 -- Assumes nothing.
 use mathlib.Core.Bool.{Bool, _&&_}
 use Prim.Native.Nat.{ℕ}
-use Rattle.fraction.specs.Quotient.{_≈_}
-use Rattle.fraction.specs.Fraction.{exact}
-use Rattle.fraction.specs.declared.Fraction.{Fraction}
+use Rattle.arithmetic.specs.Quotient.{_≈_}
+use Rattle.arithmetic.specs.Fraction.{exact}
+use Rattle.arithmetic.specs.declared.Fraction.{Fraction}
 use Rattle.grammar.specs.Tree.{Sense, equal, atMost, atLeast}
 use Rattle.rules.specs.Tests.{Decides, everyBelow, not-true, decides-as, decides-and, decides-or, decides-not, decides-below}
 use Rattle.rules.specs.Values.{zeroQ, isZero, Same}

@@ -5,10 +5,10 @@ use mathlib.Core.Bool.{Bool, not, _&&_, _||_}
 use Prim.Native.Nat.{ℕ}
 use lib.Dec.{eqb}
 use lib.IntN.{ℤ}
-use Rattle.fraction.specs.Quotient.{Quotient, _≈_, floorQ, ceilingQ}
-use Rattle.fraction.specs.Fraction.{exact}
-use Rattle.fraction.specs.Meaning.{IsFloor, IsCeiling}
-use Rattle.fraction.specs.declared.Fraction.{Fraction}
+use Rattle.arithmetic.specs.Quotient.{Quotient, _≈_, floorQ, ceilingQ}
+use Rattle.arithmetic.specs.Fraction.{exact}
+use Rattle.arithmetic.specs.Meaning.{IsFloor, IsCeiling}
+use Rattle.arithmetic.specs.declared.Fraction.{Fraction}
 use Rattle.grammar.specs.Tree.{Sense, equal, atMost, atLeast, Tree}
 use Rattle.rules.specs.Tests.{EveryBelow, everyBelow, In, someOf}
 use Rattle.rules.specs.Values.{wholeF, Whole, isWhole, zeroQ, isZero}

@@ -5,10 +5,10 @@ use mathlib.Core.Logic.{_↔_}
 use Prim.Native.Nat.{ℕ}
 use lib.IntN.{ℤ}
 use Rattle.integers.specs.Integers.{≤ℤ-antisym}
-use Rattle.fraction.specs.Quotient.{Quotient, _≈_, floorQ, ceilingQ}
-use Rattle.fraction.specs.QuotientLaws.{Positive}
-use Rattle.fraction.specs.Fraction.{exact}
-use Rattle.fraction.specs.Meaning.{IsFloor, IsCeiling, floor-is, ceiling-is}
+use Rattle.arithmetic.specs.Quotient.{Quotient, _≈_, floorQ, ceilingQ}
+use Rattle.arithmetic.specs.QuotientLaws.{Positive}
+use Rattle.arithmetic.specs.Fraction.{exact}
+use Rattle.arithmetic.specs.Meaning.{IsFloor, IsCeiling, floor-is, ceiling-is}
 use Rattle.grammar.specs.Tree.{Sense, equal, atMost, atLeast, Tree}
 use Rattle.rules.specs.Tests.{Decides, decides-as, decides-and, decides-not, decides-unless, decides-equal, decides-some, decides-below}
 use Rattle.rules.specs.Values.{wholeF, Whole, zeroQ}

@@ -4,8 +4,8 @@ use mathlib.Core.Bool.{Bool, true, cond}
 use mathlib.Core.List.{List, [], _∷_}
 use mathlib.Core.Option.{Option, none, some}
 use Prim.Native.Nat.{ℕ}
-use Rattle.fraction.specs.Laws.{zeroF}
-use Rattle.fraction.specs.declared.Fraction.{Fraction}
+use Rattle.arithmetic.specs.Laws.{zeroF}
+use Rattle.arithmetic.specs.declared.Fraction.{Fraction}
 use Rattle.grammar.specs.Tree.{Term, Sense, equal, atMost, atLeast, Row, Direction, minimize, maximize, End, infinite, finite, Claim, infeas, range, Solution, Tree}
 use Rattle.rules.specs.Tests.{All, Some, In, someOf}
 use Rattle.rules.specs.Result.{Result, Verdict, bind, _andThen_, require, each, through, collect, Through, Each}

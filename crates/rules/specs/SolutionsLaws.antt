@@ -7,11 +7,11 @@ use mathlib.Core.Logic.{_↔_, _⊎_, inl, inr, ⊎-elim}
 use mathlib.Core.Option.{some}
 use Prim.Native.Nat.{ℕ}
 use native.Mathlib.Omega.{arith}
-use Rattle.fraction.specs.QuotientLaws.{≈-refl, ≤Q-total, ≤Q-of-≈, ≤Q-of-<, ≤Q-trans, ≤Q-antisym}
-use Rattle.fraction.specs.Fraction.{IsFraction, exact}
-use Rattle.fraction.specs.Meaning.{exact-positive, exact-unique}
-use Rattle.fraction.specs.Laws.{zeroF, zero-is}
-use Rattle.fraction.specs.declared.Fraction.{Fraction}
+use Rattle.arithmetic.specs.QuotientLaws.{≈-refl, ≤Q-total, ≤Q-of-≈, ≤Q-of-<, ≤Q-trans, ≤Q-antisym}
+use Rattle.arithmetic.specs.Fraction.{IsFraction, exact}
+use Rattle.arithmetic.specs.Meaning.{exact-positive, exact-unique}
+use Rattle.arithmetic.specs.Laws.{zeroF, zero-is}
+use Rattle.arithmetic.specs.declared.Fraction.{Fraction}
 use Rattle.grammar.specs.Tree.{Term, Sense, equal, atMost, atLeast, Row, Direction, minimize, maximize, End, infinite, finite, Solution, Tree}
 use Rattle.rules.specs.Tests.{Decides, All, In, failed, decides-some}
 use Rattle.rules.specs.Result.{Says, Gives, Through, Each, says-as, says-require, says-then, says-bind, says-each, gives-bind, gives-through, gives-collect}

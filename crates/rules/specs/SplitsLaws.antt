@@ -3,7 +3,7 @@
 use mathlib.Core.Path.{_≡_, sym, _∙_, ap}
 use Prim.Native.Nat.{ℕ}
 use lib.IntN.{pos, _+ℤ_}
-use Rattle.fraction.specs.declared.Fraction.{Fraction}
+use Rattle.arithmetic.specs.declared.Fraction.{Fraction}
 use Rattle.grammar.specs.Tree.{atMost, atLeast, Tree}
 use Rattle.rules.specs.Tests.{Decides, decides-as, decides-and, decides-or}
 use Rattle.rules.specs.Values.{wholeF, Whole}

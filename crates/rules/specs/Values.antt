@@ -7,10 +7,10 @@ use Prim.Native.Nat.{ℕ}
 use lib.Dec.{eqb}
 use lib.IntN.{ℤ, pos, negsuc}
 use lib.Signed.{ltZ}
-use Rattle.fraction.specs.Outcome.{Outcome, gives, refuses}
-use Rattle.fraction.specs.Quotient.{Quotient, _≈_, _≤Q_, _+Q_, _*Q_, wholeQ}
-use Rattle.fraction.specs.Fraction.{IsFraction, exact, Order, productOf, sumOf, compareOf}
-use Rattle.fraction.specs.declared.Fraction.{Fraction}
+use Rattle.arithmetic.specs.Outcome.{Outcome, gives, refuses}
+use Rattle.arithmetic.specs.Quotient.{Quotient, _≈_, _≤Q_, _+Q_, _*Q_, wholeQ}
+use Rattle.arithmetic.specs.Fraction.{IsFraction, exact, Order, productOf, sumOf, compareOf}
+use Rattle.arithmetic.specs.declared.Fraction.{Fraction}
 use Rattle.rules.specs.Result.{Result, done, refused}
 
 -- ---- whole values

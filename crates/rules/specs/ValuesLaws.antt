@@ -12,12 +12,12 @@ use lib.IntN.{ℤ, pos, negsuc, natAbs, zero-*ℤ}
 use lib.Signed.{ltZ, _<ℤ_}
 use Rattle.integers.specs.Integers.{*ℤ-pos-one}
 use Rattle.integers.specs.Gcd.{gcd-right}
-use Rattle.fraction.specs.Outcome.{Outcome, gives, refuses}
-use Rattle.fraction.specs.Quotient.{Quotient, _≈_, _≤Q_, _<Q_, wholeQ}
-use Rattle.fraction.specs.QuotientLaws.{≈-refl, ≈-sym, ≤Q-total, ≤Q-of-≈, ≤Q-of-<, <Q-clash, lowest-terms-unique}
-use Rattle.fraction.specs.Fraction.{IsFraction, exact, Order, orderQ, productOf, sumOf, compareOf}
-use Rattle.fraction.specs.Meaning.{product-means, sum-means, Says, order-says, compare-answers, den-is, exact-positive, exact-unique}
-use Rattle.fraction.specs.declared.Fraction.{Fraction}
+use Rattle.arithmetic.specs.Outcome.{Outcome, gives, refuses}
+use Rattle.arithmetic.specs.Quotient.{Quotient, _≈_, _≤Q_, _<Q_, wholeQ}
+use Rattle.arithmetic.specs.QuotientLaws.{≈-refl, ≈-sym, ≤Q-total, ≤Q-of-≈, ≤Q-of-<, <Q-clash, lowest-terms-unique}
+use Rattle.arithmetic.specs.Fraction.{IsFraction, exact, Order, orderQ, productOf, sumOf, compareOf}
+use Rattle.arithmetic.specs.Meaning.{product-means, sum-means, Says, order-says, compare-answers, den-is, exact-positive, exact-unique}
+use Rattle.arithmetic.specs.declared.Fraction.{Fraction}
 use Rattle.rules.specs.Tests.{Decides, not-true, decides-as, decides-equal, decides-not}
 use Rattle.rules.specs.Result.{refused, Gives, no-value, done-same}
 use Rattle.rules.specs.Values.{Whole, sameZ, isWhole, zeroQ, isZero, isPositive, isNegative, Compared, AtMost, Same, notGreater, isEqual, passes, isAtMost, isSame, IsProduct, IsSum, within12, productAt, sumAt}

@@ -10,8 +10,8 @@ use Rattle.text.specs.Ascii.{ascii}
 use Rattle.text.specs.Comments.{commentsEnd}
 use Rattle.text.specs.Tokens.{rest, streamAt}
 use Rattle.text.specs.Lines.{lineOf}
-use Rattle.fraction.specs.Quotient.{lowest, floorZ, ceilingZ}
-use Rattle.fraction.specs.Fraction.{isFraction, onFractions, within, order}
+use Rattle.arithmetic.specs.Quotient.{lowest, floorZ, ceilingZ}
+use Rattle.arithmetic.specs.Fraction.{isFraction, onFractions, within, order}
 use Rattle.integers.specs.Gcd.{gcd, euclid}
 use Rattle.value.specs.Spelling.{quotientOf}
 use Rattle.value.specs.Reading.{readValue, outcomeOf, narrowed}

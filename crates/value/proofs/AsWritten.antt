@@ -15,10 +15,10 @@ use lib.Pow.{pow-add}
 use Rattle.integers.specs.Integers.{ring, *ℤ-neg-l}
 use Rattle.integers.specs.Signs.{withSign}
 use Rattle.text.specs.Bytes.{Bytes, numberOf}
-use Rattle.fraction.specs.Quotient.{Quotient, _≈_}
-use Rattle.fraction.specs.QuotientLaws.{≈-trans}
-use Rattle.fraction.specs.Fraction.{exact}
-use Rattle.fraction.specs.declared.Fraction.{Fraction}
+use Rattle.arithmetic.specs.Quotient.{Quotient, _≈_}
+use Rattle.arithmetic.specs.QuotientLaws.{≈-trans}
+use Rattle.arithmetic.specs.Fraction.{exact}
+use Rattle.arithmetic.specs.declared.Fraction.{Fraction}
 use Rattle.value.specs.Spelling.{Exponent, Tail, scaled, Written, dropLeading, significand, trailingZeros, places, exponentOf, powerOf, topScaled, bottomScaled, quotientOf, SpellsValue}
 use Rattle.value.specs.Agreement.{quotient-positive, value-read}
 use Rattle.value.proofs.Numbers.{trailing-number, trailing-shorter, leading-number}

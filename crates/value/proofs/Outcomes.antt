@@ -12,9 +12,9 @@ use lib.ListN.{length}
 use lib.Pow.{pow-add}
 use Rattle.integers.specs.Signs.{withSign}
 use Rattle.text.specs.Bytes.{Bytes, every, isNumeral, numberAfter, numberOf}
-use Rattle.fraction.specs.Outcome.{refuses}
-use Rattle.fraction.specs.Quotient.{lowest}
-use Rattle.fraction.specs.Parts.{over}
+use Rattle.arithmetic.specs.Outcome.{refuses}
+use Rattle.arithmetic.specs.Quotient.{lowest}
+use Rattle.arithmetic.specs.Parts.{over}
 use Rattle.value.specs.Spelling.{Tail, nothing, point, isZero, quotientOf, mostDigits, wholeDigits, decimalDigits}
 use Rattle.value.specs.Reading.{tailOf, withTail, narrowed, outcomeOf}
 use Rattle.value.specs.Forms.{by-test, numeral-digits}

@@ -14,10 +14,10 @@ use lib.ListN.{length, drop-of-length-le}
 use lib.Pow.{pow-add}
 use Rattle.integers.specs.Signs.{withSign, natAbs-withSign}
 use Rattle.text.specs.Bytes.{Bytes, numberOf}
-use Rattle.fraction.specs.Outcome.{refuses}
-use Rattle.fraction.specs.Quotient.{lowest}
-use Rattle.fraction.specs.Parts.{over}
-use Rattle.fraction.specs.Fraction.{limit}
+use Rattle.arithmetic.specs.Outcome.{refuses}
+use Rattle.arithmetic.specs.Quotient.{lowest}
+use Rattle.arithmetic.specs.Parts.{over}
+use Rattle.arithmetic.specs.Fraction.{limit}
 use Rattle.value.specs.Spelling.{Exponent, scaled, significand, places, trailingZeros, powerOf, topScaled, bottomScaled, quotientOf, mostDigits, mostPower}
 use Rattle.value.specs.Reading.{afterLetter, scaledBy, withTail, narrowed, outcomeOf}
 use Rattle.value.specs.Forms.{by-test}

@@ -12,7 +12,7 @@ use lib.ListN.{length, getD, take, drop, drop-of-length-le}
 use lib.Seq.{drop-drop}
 use Rattle.text.specs.Bytes.{Bytes, isDigit, leading, isNumeral}
 use Rattle.text.specs.BytesLaws.{uncons, leading-every, leading-stop}
-use Rattle.fraction.specs.Outcome.{refuses}
+use Rattle.arithmetic.specs.Outcome.{refuses}
 use Rattle.value.specs.Spelling.{Tail, nothing, point, places}
 use Rattle.value.specs.Reading.{digitsOf, afterDigits, afterLetter, exponentFrom, scaledBy, afterPoint, tailOf, withTail, unsignedForm, formOf, outcomeOf, readValue}
 use Rattle.value.specs.Forms.{by-test}

@@ -11,12 +11,12 @@ use lib.IntN.{ℤ, pos, negℤ, natAbs, _*ℤ_}
 use Rattle.integers.specs.Integers.{*ℤ-neg-l}
 use Rattle.integers.specs.Coprime.{coprime-one}
 use Rattle.integers.specs.Signs.{withSign, natAbs-withSign}
-use Rattle.fraction.specs.Outcome.{gives, refuses}
-use Rattle.fraction.specs.Quotient.{Quotient, _≈_, lowest}
-use Rattle.fraction.specs.QuotientLaws.{≈-refl, lowest-is, lowest-cong}
-use Rattle.fraction.specs.Parts.{over}
-use Rattle.fraction.specs.Fraction.{limit, within}
-use Rattle.fraction.specs.declared.Fraction.{Fraction}
+use Rattle.arithmetic.specs.Outcome.{gives, refuses}
+use Rattle.arithmetic.specs.Quotient.{Quotient, _≈_, lowest}
+use Rattle.arithmetic.specs.QuotientLaws.{≈-refl, lowest-is, lowest-cong}
+use Rattle.arithmetic.specs.Parts.{over}
+use Rattle.arithmetic.specs.Fraction.{limit, within}
+use Rattle.arithmetic.specs.declared.Fraction.{Fraction}
 use Rattle.value.specs.Spelling.{asFraction}
 use Rattle.value.specs.Reading.{narrowed}
 

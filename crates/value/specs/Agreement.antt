@@ -14,11 +14,11 @@ use lib.IntN.{ℤ, pos, negsuc, natAbs}
 use lib.ListN.{length}
 use Rattle.text.specs.Bytes.{Bytes, isDigit, every, numberAfter}
 use Rattle.text.specs.BytesLaws.{clash, both}
-use Rattle.fraction.specs.Outcome.{Outcome, gives, refuses}
-use Rattle.fraction.specs.Quotient.{lowest, _≈_}
-use Rattle.fraction.specs.QuotientLaws.{Positive, lowest-positive, lowest-coprime, lowest-equal}
-use Rattle.fraction.specs.Fraction.{limit, IsFraction, exact}
-use Rattle.fraction.specs.declared.Fraction.{Fraction}
+use Rattle.arithmetic.specs.Outcome.{Outcome, gives, refuses}
+use Rattle.arithmetic.specs.Quotient.{lowest, _≈_}
+use Rattle.arithmetic.specs.QuotientLaws.{Positive, lowest-positive, lowest-coprime, lowest-equal}
+use Rattle.arithmetic.specs.Fraction.{limit, IsFraction, exact}
+use Rattle.arithmetic.specs.declared.Fraction.{Fraction}
 use Rattle.value.specs.Spelling.{Tail, nothing, point, slash, scaled, Written, isZero, TailWellFormed, WellFormed, Writes, places, significand, powerOf, bottomScaled, bottomOf, quotientOf, asFraction, mostDigits, wholeDigits, decimalDigits, TooManyDigits, mostPower, PowerOutside, BeyondLimit, TooWide, SpellsValue, Misspelled}
 use Rattle.value.specs.Reading.{formOf, tooManyDigits, powerOutside, beyondLimit, narrowed, outcomeOf, readValue}
 use Rattle.value.specs.Promise.{ValueRead}

@@ -10,10 +10,10 @@ use lib.IntN.{ℤ, pos, negℤ}
 use Rattle.integers.specs.Gcd.{gcd, euclid}
 use Rattle.text.specs.Bytes.{isDigit}
 use Rattle.text.specs.Ascii.{ascii}
-use Rattle.fraction.specs.Outcome.{Outcome, gives, refuses}
-use Rattle.fraction.specs.Quotient.{lowest, floorZ, ceilingZ}
-use Rattle.fraction.specs.Fraction.{isFraction, within, onFractions, productOf, floorOf, ceilingOf}
-use Rattle.fraction.specs.declared.Fraction.{Fraction}
+use Rattle.arithmetic.specs.Outcome.{Outcome, gives, refuses}
+use Rattle.arithmetic.specs.Quotient.{lowest, floorZ, ceilingZ}
+use Rattle.arithmetic.specs.Fraction.{isFraction, within, onFractions, productOf, floorOf, ceilingOf}
+use Rattle.arithmetic.specs.declared.Fraction.{Fraction}
 use Rattle.value.specs.Spelling.{quotientOf}
 use Rattle.value.specs.Reading.{narrowed, outcomeOf, readValue}
 use Rattle.value.specs.Promise.{powerOfTen}

@@ -6,10 +6,10 @@ use mathlib.Core.Logic.{_↔_, _⊎_}
 use Prim.Native.Nat.{ℕ, _^_}
 use lib.Dec.{leb}
 use Rattle.text.specs.Bytes.{Bytes}
-use Rattle.fraction.specs.Outcome.{Outcome, gives, refuses}
-use Rattle.fraction.specs.Quotient.{_≈_}
-use Rattle.fraction.specs.Fraction.{IsFraction, exact}
-use Rattle.fraction.specs.declared.Fraction.{Fraction}
+use Rattle.arithmetic.specs.Outcome.{Outcome, gives, refuses}
+use Rattle.arithmetic.specs.Quotient.{_≈_}
+use Rattle.arithmetic.specs.Fraction.{IsFraction, exact}
+use Rattle.arithmetic.specs.declared.Fraction.{Fraction}
 use Rattle.value.specs.Spelling.{quotientOf, SpellsValue, SpellsTooWide, Misspelled}
 use Rattle.value.specs.Reading.{readValue}
 use Rattle.value.specs.declared.ValueAnswer.{ValueAnswer}

@@ -8,10 +8,10 @@ use lib.Dec.{ltb, eqb}
 use lib.IntN.{natAbs}
 use lib.ListN.{length, take, drop}
 use Rattle.text.specs.Bytes.{Bytes, isDigit, every, leading, isNumeral}
-use Rattle.fraction.specs.Outcome.{Outcome, gives, refuses}
-use Rattle.fraction.specs.Quotient.{Quotient, lowest}
-use Rattle.fraction.specs.Fraction.{limit}
-use Rattle.fraction.specs.declared.Fraction.{Fraction}
+use Rattle.arithmetic.specs.Outcome.{Outcome, gives, refuses}
+use Rattle.arithmetic.specs.Quotient.{Quotient, lowest}
+use Rattle.arithmetic.specs.Fraction.{limit}
+use Rattle.arithmetic.specs.declared.Fraction.{Fraction}
 use Rattle.value.specs.Spelling.{Sign, unsigned, plus, minus, Exponent, Tail, nothing, point, slash, scaled, Written, isZero, places, significand, powerOf, quotientOf, asFraction, mostDigits, wholeDigits, decimalDigits, mostPower}
 
 -- ---- the form that a token is written in, where it has one

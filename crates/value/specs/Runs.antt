@@ -11,10 +11,10 @@ use lib.IntN.{ℤ, pos, negℤ, natAbs}
 use lib.ListN.{length}
 use Rattle.integers.specs.Signs.{withSign}
 use Rattle.text.specs.Bytes.{Bytes, isDigit, every, leading, isNumeral, numberAfter, numberOf}
-use Rattle.fraction.specs.Outcome.{Outcome, refuses}
-use Rattle.fraction.specs.Quotient.{lowest}
-use Rattle.fraction.specs.Parts.{over}
-use Rattle.fraction.specs.declared.Fraction.{Fraction}
+use Rattle.arithmetic.specs.Outcome.{Outcome, refuses}
+use Rattle.arithmetic.specs.Quotient.{lowest}
+use Rattle.arithmetic.specs.Parts.{over}
+use Rattle.arithmetic.specs.declared.Fraction.{Fraction}
 use Rattle.value.specs.Spelling.{Sign, Tail, isMinus, places, topScaled, bottomScaled, dropLeading, dropTrailing, mostDigits, mostPower, wholeDigits, decimalDigits}
 use Rattle.value.specs.Reading.{digitsOf, afterLetter, exponentFrom, scaledBy, withTail, narrowed, outcomeOf}
 use Rattle.value.specs.declared.Digits.{Digits}

@@ -13,9 +13,9 @@ use lib.IntN.{ℤ, pos, negsuc, natAbs, _+ℤ_, _-ℤ_}
 use lib.ListN.{length, drop}
 use Rattle.integers.specs.Signs.{withSign}
 use Rattle.text.specs.Bytes.{Bytes, every, leading, isNumeral, numberOf}
-use Rattle.fraction.specs.Quotient.{Quotient, lowest}
-use Rattle.fraction.specs.Fraction.{limit}
-use Rattle.fraction.specs.declared.Fraction.{Fraction}
+use Rattle.arithmetic.specs.Quotient.{Quotient, lowest}
+use Rattle.arithmetic.specs.Fraction.{limit}
+use Rattle.arithmetic.specs.declared.Fraction.{Fraction}
 
 -- ---- the written form
 

@@ -8,16 +8,16 @@ ghost use lib.IntN.{ℤ};
 ghost use lib.ListN.{length, getD, drop};
 ghost use Rattle.integers.specs.Signs.{withSign};
 ghost use Rattle.text.specs.Bytes.{isDigit, leading};
-ghost use Rattle.fraction.specs.Quotient.{lowest};
-ghost use Rattle.fraction.specs.Parts.{over};
+ghost use Rattle.arithmetic.specs.Quotient.{lowest};
+ghost use Rattle.arithmetic.specs.Parts.{over};
 ghost use Rattle.value.specs.Spelling.{isZero, mostDigits};
 ghost use Rattle.value.specs.Reading.{digitsOf, tailOf, unsignedForm, narrowed, outcomeOf};
 ghost use Rattle.value.specs.Promise.{ValueRead, valueSays, powerOfTen};
 ghost use Rattle.value.specs.Runs.{room, Bounded, Appended, Longer, RunRead, noDigits, SignificantRead, Continued, WholeRead, Ended, PositiveRatio, ratioSays, wholeOutcome, scaledOutcome, WithTail, WithSignificant, Extended, Scaled, PowerIs, AfterPoint};
+use arithmetic::Arithmetic;
+use arithmetic::Fraction;
 use exponents::Exponent;
 use exponents::Power;
-use fraction::Arithmetic;
-use fraction::Fraction;
 
 mod exponents;
 
@@ -350,7 +350,7 @@ fn reduce(negative: bool, p: u64, q: u64) -> ValueAnswer
     requires { ⌜ 0 < q ⌝ }
     ensures { λ r. ⌜ valueSays r ≡ narrowed (lowest (over (withSign negative p) q)) ⌝ }
 {
-    let a = fraction::reduced(negative, p, q);
+    let a = arithmetic::reduced(negative, p, q);
     let Arithmetic::Value(f) = a else {
         return ValueAnswer::TooWide;
     };

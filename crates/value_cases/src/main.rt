@@ -1,7 +1,7 @@
 // Runs Read one value on the lines of standard input, on tokens that no line can hold and on long ones. Writes a line for
 // each: the token or its description, then the fraction or the refusal. Then works out powers of ten, a line each.
 ghost use Prim.Native.Nat.{_≤_};
-use fraction::Fraction;
+use arithmetic::Fraction;
 use value::ValueAnswer;
 
 fn put(bytes: &[u8]) {

@@ -5,8 +5,8 @@ use mathlib.Core.Logic.{_↔_, _⊎_, ⊎-elim}
 use Prim.Native.Nat.{ℕ, _<_}
 use native.Mathlib.Omega.{arith}
 use Rattle.text.specs.Bytes.{Bytes}
-use Rattle.fraction.specs.Outcome.{Outcome, gives, refuses}
-use Rattle.fraction.specs.declared.Fraction.{Fraction}
+use Rattle.arithmetic.specs.Outcome.{Outcome, gives, refuses}
+use Rattle.arithmetic.specs.declared.Fraction.{Fraction}
 use Rattle.fraction_c.specs.Stored.{Stored, status}
 use Rattle.value.specs.Spelling.{SpellsValue}
 use Rattle.value.specs.Promise.{ValueRead}

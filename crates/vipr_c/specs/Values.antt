@@ -5,7 +5,7 @@ use mathlib.Core.Path.{_≡_}
 use mathlib.Core.Logic.{_↔_}
 use Prim.Native.Nat.{ℕ}
 use Rattle.text.specs.Bytes.{Bytes}
-use Rattle.fraction.specs.declared.Fraction.{Fraction}
+use Rattle.arithmetic.specs.declared.Fraction.{Fraction}
 use Rattle.fraction_c.specs.Stored.{Stored}
 use Rattle.value.specs.Spelling.{SpellsValue, SpellsTooWide, Misspelled}
 use Rattle.value.specs.Reading.{readValue}

@@ -9,7 +9,7 @@ use Rattle.constraint.proofs.all_integral.Statement.{statement}
 use Rattle.constraint.proofs.all_integral.Tie as tie
 use Rattle.constraint.proofs.in_array.Reads as in-array-reads
 use Rattle.constraint.proofs.may_stand.Reads as may-stand-reads
-use Rattle.fraction.specs.declared.Fraction.{Fraction}
+use Rattle.arithmetic.specs.declared.Fraction.{Fraction}
 use Rattle.constraint.specs.Meaning.{mayStand, marked, integralAt, allIntegral}
 use Rattle.constraint.proofs.Below.{every-on, every-stop, every-end}
 use Rattle.constraint.proofs.Coefficients.{read-at, integral-beyond}

@@ -9,8 +9,8 @@ use Rattle.constraint.proofs.all_zero.Statement.{statement}
 use Rattle.constraint.proofs.all_zero.Tie as tie
 use Rattle.constraint.proofs.in_array.Reads as in-array-reads
 use Rattle.constraint.proofs.is_zero.Reads as is-zero-reads
-use Rattle.fraction.specs.Fraction.{exact}
-use Rattle.fraction.specs.declared.Fraction.{Fraction}
+use Rattle.arithmetic.specs.Fraction.{exact}
+use Rattle.arithmetic.specs.declared.Fraction.{Fraction}
 use Rattle.rules.specs.Values.{isZero}
 use Rattle.constraint.specs.Meaning.{zeroAt, allZero}
 use Rattle.constraint.proofs.Below.{every-on, every-stop, every-end}

@@ -2,7 +2,7 @@
 use borrow.Author.Needs.{needs}
 use Rattle.constraint.proofs.compares.Statement.{statement}
 use Rattle.constraint.proofs.compares.Tie as tie
-use Rattle.fraction.proofs.compare.Reads as compare-reads
+use Rattle.arithmetic.proofs.compare.Reads as compare-reads
 use Rattle.constraint.specs.Meaning.{equalOr}
 use Rattle.constraint.proofs.Numbers.{passed}
 

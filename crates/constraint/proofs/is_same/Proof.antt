@@ -5,7 +5,7 @@ use borrow.Author.Needs.{needs}
 use Rattle.constraint.proofs.is_same.Statement.{statement}
 use Rattle.constraint.proofs.is_same.Tie as tie
 use Rattle.constraint.proofs.compares.Reads as compares-reads
-use Rattle.fraction.specs.Fraction.{compareOf}
+use Rattle.arithmetic.specs.Fraction.{compareOf}
 use Rattle.rules.specs.Values.{isEqual}
 use Rattle.constraint.specs.Meaning.{equalOr}
 use Rattle.constraint.proofs.Numbers.{same-passes}

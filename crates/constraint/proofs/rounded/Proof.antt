@@ -4,8 +4,8 @@ use borrow.Author.Needs.{needs}
 use Rattle.constraint.proofs.rounded.Statement.{statement}
 use Rattle.constraint.proofs.rounded.Tie as tie
 use Rattle.constraint.proofs.with_rounding.Reads as with-rounding-reads
-use Rattle.fraction.proofs.ceiling.Reads as ceiling-reads
-use Rattle.fraction.proofs.floor.Reads as floor-reads
+use Rattle.arithmetic.proofs.ceiling.Reads as ceiling-reads
+use Rattle.arithmetic.proofs.floor.Reads as floor-reads
 use Rattle.constraint.specs.Meaning.{senseIs, withRounding}
 use Rattle.constraint.proofs.Senses.{rounded-to, not-rounded}
 

@@ -1,6 +1,6 @@
 -- `fraction_c::fraction_ceiling` meets its contract: what `store_whole` stores is the answer of `ceiling` for the operands.
 use borrow.Author.Needs.{needs}
-use Rattle.fraction.specs.Fraction.{ceilingOf}
+use Rattle.arithmetic.specs.Fraction.{ceilingOf}
 use Rattle.fraction_c.proofs.fraction_ceiling.Statement.{statement}
 use Rattle.fraction_c.proofs.fraction_ceiling.Tie as tie
 use Rattle.fraction_c.proofs.Stores.{of-one}

@@ -1,7 +1,7 @@
 -- `fraction_c::fraction_compare` meets its contract: what `store_order` stores is the answer of `compare` for the operands.
 use mathlib.Core.Path.{ap}
 use borrow.Author.Needs.{needs}
-use Rattle.fraction.specs.Fraction.{compareOf}
+use Rattle.arithmetic.specs.Fraction.{compareOf}
 use Rattle.fraction_c.specs.Stored.{signOf}
 use Rattle.fraction_c.proofs.fraction_compare.Statement.{statement}
 use Rattle.fraction_c.proofs.fraction_compare.Tie as tie

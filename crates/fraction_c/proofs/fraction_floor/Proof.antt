@@ -1,6 +1,6 @@
 -- `fraction_c::fraction_floor` meets its contract: what `store_whole` stores is the answer of `floor` for the operands.
 use borrow.Author.Needs.{needs}
-use Rattle.fraction.specs.Fraction.{floorOf}
+use Rattle.arithmetic.specs.Fraction.{floorOf}
 use Rattle.fraction_c.proofs.fraction_floor.Statement.{statement}
 use Rattle.fraction_c.proofs.fraction_floor.Tie as tie
 use Rattle.fraction_c.proofs.Stores.{of-one}

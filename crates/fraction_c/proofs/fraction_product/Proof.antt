@@ -1,6 +1,6 @@
 -- `fraction_c::fraction_product` meets its contract: what `store` stores is the answer of `product` for the operands.
 use borrow.Author.Needs.{needs}
-use Rattle.fraction.specs.Fraction.{productOf}
+use Rattle.arithmetic.specs.Fraction.{productOf}
 use Rattle.fraction_c.proofs.fraction_product.Statement.{statement}
 use Rattle.fraction_c.proofs.fraction_product.Tie as tie
 use Rattle.fraction_c.proofs.Stores.{of-two}

@@ -1,6 +1,6 @@
 -- `fraction_c::fraction_sum` meets its contract: what `store` stores is the answer of `sum` for the operands.
 use borrow.Author.Needs.{needs}
-use Rattle.fraction.specs.Fraction.{sumOf}
+use Rattle.arithmetic.specs.Fraction.{sumOf}
 use Rattle.fraction_c.proofs.fraction_sum.Statement.{statement}
 use Rattle.fraction_c.proofs.fraction_sum.Tie as tie
 use Rattle.fraction_c.proofs.Stores.{of-two}

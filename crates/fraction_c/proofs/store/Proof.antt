@@ -1,7 +1,7 @@
 -- `fraction_c::store` meets its contract: each arm returns and stores what `arithmeticSays` says of its case.
 use mathlib.Core.Path.{ap}
 use borrow.Author.Needs.{needs}
-use Rattle.fraction.specs.Fraction.{arithmeticSays}
+use Rattle.arithmetic.specs.Fraction.{arithmeticSays}
 use Rattle.fraction_c.proofs.store.Statement.{statement}
 use Rattle.fraction_c.proofs.store.Tie as tie
 use Rattle.fraction_c.proofs.Stores.{stored, refused, operand}

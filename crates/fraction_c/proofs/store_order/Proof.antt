@@ -2,9 +2,9 @@
 use mathlib.Core.Path.{refl, ap}
 use borrow.Author.Needs.{needs}
 use lib.IntN.{ℤ}
-use Rattle.fraction.specs.Outcome.{Outcome}
-use Rattle.fraction.specs.Fraction.{comparisonSays}
-use Rattle.fraction.specs.declared.Comparison.{Comparison}
+use Rattle.arithmetic.specs.Outcome.{Outcome}
+use Rattle.arithmetic.specs.Fraction.{comparisonSays}
+use Rattle.arithmetic.specs.declared.Comparison.{Comparison}
 use Rattle.fraction_c.specs.Stored.{signOf}
 use Rattle.fraction_c.proofs.store_order.Statement.{statement}
 use Rattle.fraction_c.proofs.store_order.Tie as tie

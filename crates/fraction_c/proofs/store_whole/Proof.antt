@@ -2,7 +2,7 @@
 use mathlib.Core.Path.{ap}
 use borrow.Author.Needs.{needs}
 use mir.Facts.{toZ-ofZ}
-use Rattle.fraction.specs.Fraction.{roundingSays}
+use Rattle.arithmetic.specs.Fraction.{roundingSays}
 use Rattle.fraction_c.proofs.store_whole.Statement.{statement}
 use Rattle.fraction_c.proofs.store_whole.Tie as tie
 use Rattle.fraction_c.proofs.Stores.{stored, refused}

@@ -10,9 +10,9 @@ use borrow.Author.Tests.{ltb-true, ltb-false, eqb-true, eqb-false}
 use lib.Dec.{ltb, eqb}
 use lib.ListN.{length, getD}
 use lib.IntN.{pos, _*ℤ_}
-use Rattle.fraction.specs.QuotientLaws.{≈-refl}
-use Rattle.fraction.specs.Laws.{zero-is}
-use Rattle.fraction.specs.declared.Fraction.{Fraction}
+use Rattle.arithmetic.specs.QuotientLaws.{≈-refl}
+use Rattle.arithmetic.specs.Laws.{zero-is}
+use Rattle.arithmetic.specs.declared.Fraction.{Fraction}
 use Rattle.grammar.specs.Tree.{Multiplier, Unsplit, Reason, asm, lin, rnd, uns, sol, Derivation, Tree}
 use Rattle.rules.specs.Tests.{All, In}
 use Rattle.rules.specs.Result.{AllFrom}

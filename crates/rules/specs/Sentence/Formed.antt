@@ -4,7 +4,7 @@ use mathlib.Core.Path.{_≡_}
 use mathlib.Core.List.{List, [], _∷_}
 use Prim.Native.Nat.{ℕ, _<_}
 use lib.ListN.{length}
-use Rattle.fraction.specs.Fraction.{IsFraction}
+use Rattle.arithmetic.specs.Fraction.{IsFraction}
 use Rattle.grammar.specs.Tree.{Term, Row, End, infinite, finite, Claim, infeas, range, Solution, Derivation, Tree}
 use Rattle.rules.specs.Tests.{All}
 use Rattle.rules.specs.Result.{AllFrom}

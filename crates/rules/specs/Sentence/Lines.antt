@@ -11,11 +11,11 @@ use borrow.Author.Tests.{eqb-true, eqb-false, ne-eqb}
 use lib.Dec.{eqb}
 use lib.IntN.{ℤ, pos, _+ℤ_, _*ℤ_, *ℤ-zero, zero-*ℤ, +ℤ-idr, +ℤ-assoc, +ℤ-comm}
 use Rattle.integers.specs.Integers.{ring, *ℤ-assoc, +ℤ-cancel}
-use Rattle.fraction.specs.Quotient.{_*Q_}
-use Rattle.fraction.specs.QuotientLaws.{Positive}
-use Rattle.fraction.specs.Fraction.{IsFraction, exact}
-use Rattle.fraction.specs.Laws.{zeroF, zero-is}
-use Rattle.fraction.specs.declared.Fraction.{Fraction}
+use Rattle.arithmetic.specs.Quotient.{_*Q_}
+use Rattle.arithmetic.specs.QuotientLaws.{Positive}
+use Rattle.arithmetic.specs.Fraction.{IsFraction, exact}
+use Rattle.arithmetic.specs.Laws.{zeroF, zero-is}
+use Rattle.arithmetic.specs.declared.Fraction.{Fraction}
 use Rattle.grammar.specs.Tree.{Term, Sense}
 use Rattle.rules.specs.Tests.{All, EveryBelow}
 use Rattle.rules.specs.Result.{Through}

@@ -11,10 +11,10 @@ use lib.ListN.{length, getD}
 use lib.IntN.{ℤ, pos, _+ℤ_, _*ℤ_, zero-*ℤ, +ℤ-idl, +ℤ-idr, +ℤ-assoc}
 use Rattle.integers.specs.Signs.{*ℤ-cancel}
 use Rattle.integers.specs.Integers.{ring, +ℤ-*ℤ, ≤ℤ-trans, ≤ℤ-total, ≤ℤ-of-<}
-use Rattle.fraction.specs.Quotient.{_≈_, wholeQ}
-use Rattle.fraction.specs.Fraction.{IsFraction, exact}
-use Rattle.fraction.specs.Laws.{zeroF}
-use Rattle.fraction.specs.declared.Fraction.{Fraction}
+use Rattle.arithmetic.specs.Quotient.{_≈_, wholeQ}
+use Rattle.arithmetic.specs.Fraction.{IsFraction, exact}
+use Rattle.arithmetic.specs.Laws.{zeroF}
+use Rattle.arithmetic.specs.declared.Fraction.{Fraction}
 use Rattle.grammar.specs.Tree.{Term, Sense, equal, atMost, atLeast, Row, Direction, minimize, maximize, End, infinite, finite, Claim, infeas, range, Solution, Derivation, Tree}
 use Rattle.rules.specs.Tests.{All, Some}
 use Rattle.rules.specs.Result.{Through, Each}

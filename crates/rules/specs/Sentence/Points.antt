@@ -19,8 +19,8 @@ use mathlib.Core.List.{List, [], _∷_}
 use Prim.Native.Nat.{ℕ, _<_}
 use lib.IntN.{ℤ, pos}
 use Rattle.text.specs.Bytes.{Bytes}
-use Rattle.fraction.specs.Quotient.{Quotient, _≈_, _≤Q_, _+Q_, _*Q_, wholeQ}
-use Rattle.fraction.specs.Fraction.{exact}
+use Rattle.arithmetic.specs.Quotient.{Quotient, _≈_, _≤Q_, _+Q_, _*Q_, wholeQ}
+use Rattle.arithmetic.specs.Fraction.{exact}
 use Rattle.grammar.specs.Tree.{Term, Sense, equal, atMost, atLeast, Row, Direction, minimize, maximize, End, infinite, finite, Claim, infeas, range, Solution, Tree}
 use Rattle.grammar.specs.Texts.{SpellsTree}
 use Rattle.rules.specs.Tests.{All, Some, EveryBelow}

@@ -12,12 +12,12 @@ use lib.Dec.{eqb}
 use lib.IntN.{ℤ, pos, natAbs, _+ℤ_, _*ℤ_, *ℤ-comm, zero-*ℤ}
 use lib.Signed.{_≤ℤ_}
 use Rattle.integers.specs.Integers.{ring, *ℤ-assoc, *ℤ-pos-one}
-use Rattle.fraction.specs.Quotient.{Quotient, _≈_, _≤Q_, _+Q_, _*Q_, wholeQ}
-use Rattle.fraction.specs.QuotientLaws.{Positive}
-use Rattle.fraction.specs.Fraction.{limit, IsFraction, exact}
-use Rattle.fraction.specs.Meaning.{exact-positive}
-use Rattle.fraction.specs.Laws.{zeroF}
-use Rattle.fraction.specs.declared.Fraction.{Fraction}
+use Rattle.arithmetic.specs.Quotient.{Quotient, _≈_, _≤Q_, _+Q_, _*Q_, wholeQ}
+use Rattle.arithmetic.specs.QuotientLaws.{Positive}
+use Rattle.arithmetic.specs.Fraction.{limit, IsFraction, exact}
+use Rattle.arithmetic.specs.Meaning.{exact-positive}
+use Rattle.arithmetic.specs.Laws.{zeroF}
+use Rattle.arithmetic.specs.declared.Fraction.{Fraction}
 use Rattle.grammar.specs.Tree.{Sense, equal, atMost, atLeast}
 use Rattle.rules.specs.Values.{wholeF, AtMost, Same, IsProduct, IsSum}
 use Rattle.rules.specs.Sentence.Points.{Compares}

@@ -10,11 +10,11 @@ use native.Mathlib.Omega.{arith}
 use lib.IntN.{ℤ, pos, negsuc, negℤ, natAbs, _+ℤ_, _*ℤ_, zero-*ℤ, +ℤ-idr, negℤ-negℤ}
 use lib.Signed.{_≤ℤ_, _<ℤ_}
 use Rattle.integers.specs.Integers.{ring, +ℤ-*ℤ, *ℤ-pos-one, *ℤ-neg-l, *ℤ-neg-r, *ℤ-mono, ≤ℤ-neg, ≤ℤ-trans, ≤ℤ-total, <ℤ-suc}
-use Rattle.fraction.specs.Quotient.{_≈_, wholeQ}
-use Rattle.fraction.specs.QuotientLaws.{≈-sym, <Q-clash}
-use Rattle.fraction.specs.Fraction.{IsFraction, exact}
-use Rattle.fraction.specs.Laws.{zeroF, zero-is}
-use Rattle.fraction.specs.declared.Fraction.{Fraction}
+use Rattle.arithmetic.specs.Quotient.{_≈_, wholeQ}
+use Rattle.arithmetic.specs.QuotientLaws.{≈-sym, <Q-clash}
+use Rattle.arithmetic.specs.Fraction.{IsFraction, exact}
+use Rattle.arithmetic.specs.Laws.{zeroF, zero-is}
+use Rattle.arithmetic.specs.declared.Fraction.{Fraction}
 use Rattle.grammar.specs.Tree.{Sense, equal, atMost, atLeast, Row, Multiplier, Tree}
 use Rattle.rules.specs.Tests.{All, EveryBelow}
 use Rattle.rules.specs.Result.{Through}

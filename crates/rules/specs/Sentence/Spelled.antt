@@ -10,8 +10,8 @@ use lib.Dec.{eqb}
 use lib.ListN.{length, length-append}
 use Rattle.text.specs.Bytes.{Bytes}
 use Rattle.text.specs.Tokens.{Token}
-use Rattle.fraction.specs.Fraction.{IsFraction}
-use Rattle.fraction.specs.declared.Fraction.{Fraction}
+use Rattle.arithmetic.specs.Fraction.{IsFraction}
+use Rattle.arithmetic.specs.declared.Fraction.{Fraction}
 use Rattle.value.specs.Spelling.{SpellsValue}
 use Rattle.value.specs.Agreement.{value-read}
 use Rattle.grammar.specs.Tree.{Integers, Objective, Constraints, Solutions, Derivations, Term, Side, obj, listed, Row, End, infinite, finite, Claim, infeas, range, Solution, Multiplier, MultiplierList, Reason, asm, lin, rnd, uns, sol, Derivation, Tree}

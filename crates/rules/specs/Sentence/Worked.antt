@@ -11,8 +11,8 @@ use lib.Signed.{_≤ℤ_}
 use Rattle.text.specs.Bytes.{Bytes, isSeparator, isPrintable, isDigit}
 use Rattle.text.specs.Comments.{commentsEnd}
 use Rattle.text.specs.Tokens.{rest, streamAt}
-use Rattle.fraction.specs.Quotient.{_≈_, wholeQ, lowest, floorZ, ceilingZ}
-use Rattle.fraction.specs.Fraction.{isFraction, onFractions, within, order}
+use Rattle.arithmetic.specs.Quotient.{_≈_, wholeQ, lowest, floorZ, ceilingZ}
+use Rattle.arithmetic.specs.Fraction.{isFraction, onFractions, within, order}
 use Rattle.integers.specs.Gcd.{gcd, euclid}
 use Rattle.integers.specs.Integers.{*ℤ-pos-one}
 use Rattle.value.specs.Spelling.{quotientOf}

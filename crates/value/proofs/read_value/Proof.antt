@@ -3,8 +3,8 @@
 use borrow.Author.Needs.{needs}
 use mathlib.Core.Path.{_≡_, _∙_, sym, subst}
 use Rattle.text.specs.Bytes.{Bytes}
-use Rattle.fraction.specs.Outcome.{Outcome}
-use Rattle.fraction.specs.declared.Fraction.{Fraction}
+use Rattle.arithmetic.specs.Outcome.{Outcome}
+use Rattle.arithmetic.specs.declared.Fraction.{Fraction}
 use Rattle.value.specs.Reading.{readValue}
 use Rattle.value.specs.Promise.{ValueRead}
 use Rattle.value.specs.Agreement.{value-read}

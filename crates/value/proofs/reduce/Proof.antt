@@ -8,13 +8,13 @@ use native.Mathlib.Omega.{arith}
 use borrow.Author.Tests.{ne-eqb}
 use denote.Enum.Declared.{tagOf}
 use Rattle.integers.specs.Signs.{withSign}
-use Rattle.fraction.specs.Outcome.{refuses}
-use Rattle.fraction.specs.Quotient.{lowest}
-use Rattle.fraction.specs.Parts.{over}
-use Rattle.fraction.specs.Fraction.{within, onFractions, arithmeticSays}
-use Rattle.fraction.proofs.Arithmetic.{the-type}
-use Rattle.fraction.specs.declared.Arithmetic.{Arithmetic}
-use Rattle.fraction.specs.declared.Arithmetic.the-variants.{Value, NotAFraction, TooWide}
+use Rattle.arithmetic.specs.Outcome.{refuses}
+use Rattle.arithmetic.specs.Quotient.{lowest}
+use Rattle.arithmetic.specs.Parts.{over}
+use Rattle.arithmetic.specs.Fraction.{within, onFractions, arithmeticSays}
+use Rattle.arithmetic.proofs.Arithmetic.{the-type}
+use Rattle.arithmetic.specs.declared.Arithmetic.{Arithmetic}
+use Rattle.arithmetic.specs.declared.Arithmetic.the-variants.{Value, NotAFraction, TooWide}
 use Rattle.value.proofs.Widths.{narrowed-gives, narrowed-refuses}
 use Rattle.value.proofs.reduce.Statement.{statement}
 use Rattle.value.proofs.reduce.Tie as tie

@@ -4,7 +4,7 @@ use Rattle.checker.proofs.DerivationsLaws.{rows-few}
 use native.Mathlib.Omega.{arith}
 use mathlib.Core.Path.{sym, ap, _∙_}
 use mathlib.Core.Bool.{Bool}
-use Rattle.fraction.specs.declared.Fraction.{Fraction}
+use Rattle.arithmetic.specs.declared.Fraction.{Fraction}
 use Rattle.grammar.specs.Tree.{Sense, Tree}
 use Rattle.rules.specs.Rows.{variables, Constraint, objectiveWith}
 use Rattle.rules.specs.Domination.{dominates}

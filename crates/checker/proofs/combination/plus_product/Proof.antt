@@ -2,9 +2,9 @@
 use mathlib.Core.Path.{_≡_, refl, ap, _∙_}
 use Prim.Native.Nat.{ℕ}
 use borrow.Author.Needs.{needs}
-use Rattle.fraction.specs.declared.Fraction.{Fraction}
-use Rattle.fraction.specs.Outcome.{Outcome, gives, refuses}
-use Rattle.fraction.specs.Fraction.{productOf, sumOf, after}
+use Rattle.arithmetic.specs.declared.Fraction.{Fraction}
+use Rattle.arithmetic.specs.Outcome.{Outcome, gives, refuses}
+use Rattle.arithmetic.specs.Fraction.{productOf, sumOf, after}
 use Rattle.rules.specs.Result.{bind}
 use Rattle.rules.specs.Values.{within12, sumAt}
 use Rattle.checker.proofs.combination.plus_product.Statement.{statement}

@@ -4,7 +4,7 @@ use mathlib.Core.Option.{Option}
 use Prim.Native.Nat.{ℕ, _+_, _<_}
 use native.Mathlib.Omega.{arith}
 use borrow.Author.Needs.{needs}
-use Rattle.fraction.specs.declared.Fraction.{Fraction}
+use Rattle.arithmetic.specs.declared.Fraction.{Fraction}
 use Rattle.rules.specs.Rows.{rowAt}
 use Rattle.rules.specs.Derivations.{checkLin, checkRnd, checkSol, checkReason}
 use Rattle.checker.specs.Held.{DerivationStands, derivationAt}

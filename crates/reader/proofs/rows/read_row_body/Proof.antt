@@ -6,7 +6,7 @@ use native.Mathlib.Omega.{arith}
 use borrow.Author.Needs.{needs}
 use Rattle.reader.proofs.rows.read_row_body.Statement.{statement}
 use Rattle.reader.proofs.rows.read_row_body.Tie as tie
-use Rattle.fraction.specs.declared.Fraction.{Fraction}
+use Rattle.arithmetic.specs.declared.Fraction.{Fraction}
 use Rattle.grammar.specs.Tree.{Sense}
 use Rattle.grammar.specs.Certificate.{sense, senseCell, plainValue}
 use Rattle.reader.specs.Steps.{state, RowRoom, Went, Reads, any, the}

@@ -6,7 +6,7 @@ use borrow.Author.Needs.{needs}
 use Rattle.reader.proofs.symbols.read_end_value.Statement.{statement}
 use Rattle.reader.proofs.symbols.read_end_value.Tie as tie
 use Rattle.reader.proofs.symbols.read_value.Reads as read-value-reads
-use Rattle.fraction.specs.declared.Fraction.{Fraction}
+use Rattle.arithmetic.specs.declared.Fraction.{Fraction}
 use Rattle.grammar.specs.Format.{symbol, value}
 use Rattle.reader.specs.Steps.{state, Went, RowRoom}
 use Rattle.reader.proofs.Laws.{inside-after, cells-more, next-is, stop-is, reads-next, reads-on, value-filled, value-stops}

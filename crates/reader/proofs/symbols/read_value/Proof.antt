@@ -25,7 +25,7 @@ use Rattle.value.specs.Promise.{valueSays}
 use Rattle.grammar.specs.Format.{value, symbol}
 use Rattle.reader.specs.Steps.{state, Went}
 use Rattle.reader.proofs.Laws.{reads-stop, symbol-end, token-found, token-missing, after-fits, reads-next, symbol-fault, symbol-valued}
-use Rattle.fraction.specs.Outcome.{refuses}
+use Rattle.arithmetic.specs.Outcome.{refuses}
 
 abbrev T : Type 0
 T = tie.After-known-told

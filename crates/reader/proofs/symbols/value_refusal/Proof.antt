@@ -5,9 +5,9 @@ use native.Mathlib.Omega.{arith}
 use borrow.Author.Needs.{needs}
 use Rattle.reader.proofs.symbols.value_refusal.Statement.{statement}
 use Rattle.reader.proofs.symbols.value_refusal.Tie as tie
-use Rattle.fraction.specs.Outcome.{Outcome, gives, refuses}
+use Rattle.arithmetic.specs.Outcome.{Outcome, gives, refuses}
 use Rattle.value.specs.Promise.{valueSays}
-use Rattle.fraction.specs.declared.Fraction.{Fraction}
+use Rattle.arithmetic.specs.declared.Fraction.{Fraction}
 
 number-is : {m n : ℕ} {o : Outcome Fraction} → o ≡ refuses m → o ≡ refuses n → m ≡ n
 number-is e f = cc

@@ -1,6 +1,6 @@
 -- `checker::combination::Combination::empty` meets its contract: each coefficient is 0.
 use mathlib.Core.Path.{refl}
-use Rattle.fraction.specs.Laws.{zeroF}
+use Rattle.arithmetic.specs.Laws.{zeroF}
 use Rattle.checker.proofs.TablesLaws.{no-coefficients}
 use Rattle.checker.proofs.combination.Combination.empty.Statement.{statement}
 use Rattle.checker.proofs.combination.Combination.empty.Tie as tie

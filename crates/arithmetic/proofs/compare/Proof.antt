@@ -1,0 +1,32 @@
+-- `arithmetic::compare` meets its contract: the cross products of two fractions are ordered as they are.
+use mathlib.Core.Path.{sym, _∙_, ap₂}
+use borrow.Author.Needs.{needs}
+use lib.IntN.{ℤ}
+use Rattle.arithmetic.proofs.compare.Statement.{statement}
+use Rattle.arithmetic.proofs.compare.Tie as tie
+use Rattle.integers.proofs.Casts.{back64-of}
+use Rattle.arithmetic.specs.Outcome.{gives}
+use Rattle.arithmetic.specs.Fraction.{order}
+use Rattle.arithmetic.specs.Meaning.{are-both}
+use Rattle.arithmetic.proofs.Ways.{on-fractions}
+
+cross-requires : tie.Need-cross-requires
+cross-requires c κs = search needs
+
+cross-requires-2 : tie.Need-cross-requires-2
+cross-requires-2 c κs = search needs
+
+ordered-requires : tie.Need-ordered-requires
+ordered-requires c κs = search needs
+
+returns : tie.Need-returns
+returns c = λ v w.
+    let x = c .before .before .cross in
+    let y = c .before .cross2 in
+    let s = c .before .before .before in
+    c .ordered .ensures
+    ∙ ap₂ (λ (p q : ℤ). gives (order p q)) (back64-of (x .result) (x .ok) ∙ x .ensures .0) (back64-of (y .result) (y .ok) ∙ y .ensures .0)
+    ∙ sym (on-fractions _ _ (are-both (s .args .a) (s .args .b) (v, w)))
+
+pub compare-spec : {M : Type 1} → statement M
+compare-spec = tie.close (tie.spec cross-requires cross-requires-2 ordered-requires returns)
