@@ -21,7 +21,7 @@ use Rattle.sets.specs.SetsLaws.{bit-zero}
 use Rattle.sets.specs.Course.{unionBit, withoutBit, reasonBit, union-start, union-on, union-end, Stand, stand-next, stand-end}
 use Rattle.checker.specs.Tables.{listedAt, aMultiplier, multipliersAt, Listed, cellsAt, NamedBelow, pairsFrom, reasonAt, reasonValuesAt}
 use Rattle.checker.specs.Held.{cellOf, numberOf, wordOf, ReasonStands, derivationAt, Stands}
-use Rattle.checker.specs.declared.tables.Frame.{Frame}
+use Rattle.checker.specs.declared.parts.Frame.{Frame}
 use Rattle.checker.proofs.DerivationsLaws.{given-is, derived-is, rows-few, derived-here, named-small, named-on, cells-next, cells-none, listed-rows}
 
 -- ---- the rows that stand in cells

@@ -19,7 +19,7 @@ use Rattle.checker.specs.Tables.{fractionAt}
 use Rattle.checker.specs.Held.{EndStands, EndIsThere, ClaimStands, ClaimIsThere, isMaximize, Stands, ClaimRead}
 use Rattle.checker.specs.Answers.{boundSays, endIn, against}
 use Rattle.checker.specs.declared.claims.Bound.{Bound}
-use Rattle.checker.specs.declared.tables.Frame.{Frame}
+use Rattle.checker.specs.declared.parts.Frame.{Frame}
 use Rattle.checker.proofs.DerivationsLaws.{variables-are}
 
 -- ---- one end

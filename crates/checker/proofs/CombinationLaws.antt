@@ -24,7 +24,7 @@ use Rattle.constraint.specs.Meaning.{coefficientsOf}
 use Rattle.checker.specs.Tables.{aTerm, aMultiplier}
 use Rattle.checker.specs.Held.{RowsStand}
 use Rattle.checker.specs.Answers.{within}
-use Rattle.checker.specs.declared.tables.Pairs.{Pairs}
+use Rattle.checker.specs.declared.parts.Pairs.{Pairs}
 use Rattle.checker.proofs.TablesLaws.{noFraction, coefficient-is, coefficient-set}
 
 -- ---- answers

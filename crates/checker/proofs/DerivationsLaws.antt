@@ -45,8 +45,8 @@ use Rattle.checker.specs.Tables.{listedAt, aMultiplier, termsAt, multipl
 use Rattle.checker.specs.Held.{cellOf, RowsStand, wordOf, multipliersOf, ReasonStands, UnsplitStands, DerivationStands, noDerivation, derivationAt, isMaximize, Stands}
 use Rattle.checker.specs.HeldPairs.{stands-one}
 use Rattle.checker.specs.HeldLaws.{entry-given, entry-derived}
-use Rattle.checker.specs.declared.tables.Pairs.{Pairs}
-use Rattle.checker.specs.declared.tables.Frame.{Frame}
+use Rattle.checker.specs.declared.parts.Pairs.{Pairs}
+use Rattle.checker.specs.declared.parts.Frame.{Frame}
 
 -- ---- rows by their index
 

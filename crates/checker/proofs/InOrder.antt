@@ -30,7 +30,7 @@ use Rattle.checker.specs.declared.objectives.Objectives.{Objectives}
 use Rattle.checker.specs.declared.objectives.Objectives.the-variants as objectives
 use Rattle.checker.specs.declared.Verdict.{Verdict}
 use Rattle.checker.specs.declared.Verdict.the-variants.{Fine, Refused}
-use Rattle.checker.specs.declared.tables.Frame.{Frame}
+use Rattle.checker.specs.declared.parts.Frame.{Frame}
 
 -- ---- the frame that is read off the tables of a certificate is its own
 

@@ -14,7 +14,7 @@ use Rattle.rules.specs.Rows.{Constraint, constraintOf, rowAt}
 use Rattle.rules.specs.Assumptions.{assumptionsOf, isEmpty}
 use Rattle.rules.specs.Claims.{lastFrom, lastRow, lastPasses, lastPlace}
 use Rattle.checker.specs.Held.{RowStands, RowIsThere, noDerivation, derivationAt, Stands}
-use Rattle.checker.specs.declared.tables.Frame.{Frame}
+use Rattle.checker.specs.declared.parts.Frame.{Frame}
 use Rattle.checker.proofs.DerivationsLaws.{row-derived}
 
 last-from : (k : ℕ) (d : Derivation) (ds : List Derivation) → lastFrom k (d ∷ ds) ≡ some (k + length ds, getD (d ∷ ds) (length ds) noDerivation)

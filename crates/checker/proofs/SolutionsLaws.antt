@@ -24,8 +24,8 @@ use Rattle.checker.specs.Held.{numberOf, sideOf, RowStands, SolutionStan
 use Rattle.checker.specs.HeldLaws.{entry-given}
 use Rattle.checker.specs.Answers.{bestSays, nextBest, Worked}
 use Rattle.checker.specs.declared.objectives.Best.{Best}
-use Rattle.checker.specs.declared.tables.Frame.{Frame}
-use Rattle.checker.specs.declared.tables.Pairs.{Pairs}
+use Rattle.checker.specs.declared.parts.Frame.{Frame}
+use Rattle.checker.specs.declared.parts.Pairs.{Pairs}
 use Rattle.checker.proofs.TablesLaws.{noFraction, coefficient-is, terms-stand}
 use Rattle.checker.proofs.CombinationLaws.{says, plusProduct}
 use Rattle.checker.proofs.Lists.{collected, collect-start, collect-is, collect-on, collect-end, some-more}

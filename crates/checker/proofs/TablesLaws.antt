@@ -26,7 +26,7 @@ use Rattle.constraint.specs.Meaning.{senseIs, coefficientsOf, meant, marked}
 use Rattle.constraint.specs.declared.Constraint.{Constraint}
 use Rattle.checker.specs.Tables.{fractionAt, listedAt, aTerm, termsAt, Listed, pairsFrom, sideAt, ownTerms, reasonAt, reasonValuesAt, afterWord, lastAt}
 use Rattle.checker.specs.Held.{numberOf, sideOf, RowStands, IntegersStand}
-use Rattle.checker.specs.declared.tables.Pairs.{Pairs}
+use Rattle.checker.specs.declared.parts.Pairs.{Pairs}
 
 -- ---- arrays
 

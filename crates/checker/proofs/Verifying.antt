@@ -11,9 +11,10 @@ use lib.Dec.{leb}
 use lib.IntN.{ℤ, pos}
 use lib.ListN.{length}
 use Rattle.text.specs.Bytes.{Bytes}
+use Rattle.tables.specs.Limits.{indexCells, valueCells, rowCells, hasCells, isShort, mostBytes}
 use Rattle.arithmetic.specs.Meaning.{and-true, true-and}
 use Rattle.grammar.specs.Tree.{Tree}
-use Rattle.grammar.specs.Tables.{indexCells, valueCells, rowCells, indexTable, valueTable, rowTable}
+use Rattle.grammar.specs.Tables.{indexTable, valueTable, rowTable}
 use Rattle.grammar.specs.Texts.{SpellsTree, ReadText, taken, refused, readOf, read-sound, read-complete}
 use Rattle.grammar.specs.declared.Refusal.{Refusal}
 use Rattle.rules.specs.Check.{checkOf}
@@ -21,7 +22,7 @@ use Rattle.rules.specs.Meets.{Meets}
 use Rattle.rules.specs.Agreement.{check-says}
 use Rattle.reader.specs.Documents.{placesOf}
 use Rattle.reader.specs.Promise as reading
-use Rattle.reader.specs.Promise.{Course, not-begun, begun, hasCells, isShort, mostBytes, courseOf, tableOf, Begun, CertificateRead}
+use Rattle.reader.specs.Promise.{Course, not-begun, begun, courseOf, tableOf, Begun, CertificateRead}
 use Rattle.reader.specs.declared.Places.{Places}
 use Rattle.reader.specs.declared.Reading.{Reading}
 use Rattle.reader.specs.declared.Reading.the-variants as read

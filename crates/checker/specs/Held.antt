@@ -8,26 +8,27 @@ use lib.Dec.{eqb}
 use lib.IntN.{ℤ}
 use lib.ListN.{length, getD}
 use Rattle.text.specs.Bytes.{Bytes}
+use Rattle.tables.specs.Limits.{rowCells, mostBytes, mostVariables, mostRows}
 use Rattle.arithmetic.specs.declared.Fraction.{Fraction}
 use Rattle.grammar.specs.Tree.{Direction, minimize, maximize, Row, End, infinite, finite, Claim, infeas, range, Solution, Reason, asm, lin, rnd, uns, sol, Unsplit, never, Derivation, Tree}
 use Rattle.grammar.specs.Certificate.{senseCell}
 use Rattle.grammar.specs.Contents.{lastCell, endCell}
 use Rattle.grammar.specs.Ranges.{TreeInRange}
 use Rattle.grammar.specs.Rows.{objectiveAt, claimAt, claimValuesAt}
-use Rattle.grammar.specs.Tables.{rowCells, indexTable, valueTable, rowTable}
+use Rattle.grammar.specs.Tables.{indexTable, valueTable, rowTable}
 use Rattle.grammar.specs.Texts.{SpellsTree}
 use Rattle.reader.specs.Documents.{placesOf}
 use Rattle.reader.specs.declared.Places.{Places}
 use Rattle.rules.specs.Rows.{objective, termsOf, noRow, rowAt}
 use Rattle.checker.specs.Tables.{fractionAt, termsAt, multipliersAt, Listed, pairsFrom, sideAt, reasonAt, reasonValuesAt, afterWord, lastAt}
-use Rattle.checker.specs.declared.tables.Pairs.{Pairs}
-use Rattle.checker.specs.declared.tables.Frame.{Frame}
+use Rattle.checker.specs.declared.parts.Pairs.{Pairs}
+use Rattle.checker.specs.declared.parts.Frame.{Frame}
 
 -- the tables are as they are left by reading a text that spells this tree
 pub record Held (tree : Tree) (index : List ℕ) (values : List ℤ) (rows : List ℕ) : Type 0 where
   pub text : Bytes
   pub spelled : SpellsTree text tree
-  pub short : length text ≤ 32768
+  pub short : length text ≤ mostBytes
   pub index-is : index ≡ indexTable (length index) tree
   pub values-is : values ≡ valueTable (length values) tree
   pub rows-is : rows ≡ rowTable (length rows) tree
@@ -56,7 +57,7 @@ pub record RowStands (tree : Tree) (index : List ℕ) (values : List ℤ) (rows 
   pub number-inside : 2 * numberOf rows r + 1 < length values
   pub number-small : numberOf rows r < 65536
   pub right-is : fractionAt values (numberOf rows r) ≡ row .right
-  pub listed : Listed index values 256 (sideOf index rows objective r)
+  pub listed : Listed index values mostVariables (sideOf index rows objective r)
   pub terms-are : termsAt index values (sideOf index rows objective r) ≡ termsOf tree row
 
 -- it is some row
@@ -129,13 +130,13 @@ pub record DerivationStands (index : List ℕ) (values : List ℤ) (rows : List 
 
 -- "Row 1,024+j, solution j: name place, length, cell of its count, number of values read before it"
 abbrev pub solutionPairs : List ℕ → List ℕ → ℕ → Pairs
-solutionPairs index rows j = pairsFrom index (cellOf rows (1024 + j)) (numberOf rows (1024 + j))
+solutionPairs index rows j = pairsFrom index (cellOf rows (mostRows + j)) (numberOf rows (mostRows + j))
 
 pub record SolutionStands (index : List ℕ) (values : List ℤ) (rows : List ℕ) (j : ℕ) (s : Solution) : Type 0 where
-  pub inside : 4 * (1024 + j) + 4 ≤ length rows
-  pub place-is : getD rows (4 * (1024 + j)) 0 ≡ s .name .place
-  pub cell-inside : cellOf rows (1024 + j) < length index
-  pub listed : Listed index values 256 (solutionPairs index rows j)
+  pub inside : 4 * (mostRows + j) + 4 ≤ length rows
+  pub place-is : getD rows (4 * (mostRows + j)) 0 ≡ s .name .place
+  pub cell-inside : cellOf rows (mostRows + j) < length index
+  pub listed : Listed index values mostVariables (solutionPairs index rows j)
   pub terms-are : termsAt index values (solutionPairs index rows j) ≡ s .values .terms
 
 abbrev pub SolutionIsThere : List ℕ → List ℤ → List ℕ → ℕ → Type 0
@@ -201,7 +202,7 @@ pub record IntegersStand (tree : Tree) (index : List ℕ) : Type 0 where
   pub counted : length (tree .integers .indices) ≡ tree .integers .count
   pub count-is : getD index 1 0 ≡ tree .integers .count
   pub are : (k : ℕ) → k < tree .integers .count → getD index (2 + k) 0 ≡ getD (tree .integers .indices) k 0
-  pub small : (k : ℕ) → k < tree .integers .count → getD index (2 + k) 0 < 256
+  pub small : (k : ℕ) → k < tree .integers .count → getD index (2 + k) 0 < mostVariables
 
 abbrev pub IntegersAreThere : List ℕ → Type 0
 IntegersAreThere index = (tree : Tree) × IntegersStand tree index
@@ -210,7 +211,7 @@ IntegersAreThere index = (tree : Tree) × IntegersStand tree index
 pub record Stands (tree : Tree) (f : Frame) (index : List ℕ) (values : List ℤ) (rows : List ℕ) : Type 0 where
   pub in-range : TreeInRange tree
   pub frame-is : f ≡ frameOf tree
-  pub objective-listed : Listed index values 256 (f .objective)
+  pub objective-listed : Listed index values mostVariables (f .objective)
   pub objective-is : termsAt index values (f .objective) ≡ objective tree
   pub integers : IntegersStand tree index
   pub rows-stand : (r : ℕ) → r < f .given + f .derived → RowStands tree index values rows (f .objective) r (rowAt tree r)

@@ -28,7 +28,7 @@ use Rattle.rules.specs.Rows as rules
 use Rattle.rules.specs.RowsLaws as rules-laws
 use Rattle.checker.specs.Tables.{aTerm, reasonAt, reasonValuesAt, afterWord}
 use Rattle.checker.specs.Held.{Held, cellOf, numberOf, RowStands, DerivationStands, SolutionStands, EndStands, ClaimStands, isMaximize, frameOf, noDerivation, derivationAt, noSolution, solutionAt, Stands, frameAt, PlacesStand}
-use Rattle.checker.specs.declared.tables.Frame.{Frame}
+use Rattle.checker.specs.declared.parts.Frame.{Frame}
 use Rattle.checker.specs.HeldPairs.{stands-one, each-get, get-map, stands-rest, stands-next, stands-here, term, PairsStand, Turns, number-inside, fraction-is, pairs-stand, pairs-from, side-size, own-terms, side-stands, word-is, after-word, reason-stands}
 
 -- ---- rows by their index

@@ -24,7 +24,7 @@ use Rattle.rules.specs.Rows.{sideTerms}
 use Rattle.rules.specs.Rows as rules
 use Rattle.checker.specs.Tables.{fractionAt, listedAt, aTerm, aMultiplier, multipliersAt, Listed, pairsFrom, sideAt, ownTerms, afterWord}
 use Rattle.checker.specs.Held.{wordOf, ReasonStands}
-use Rattle.checker.specs.declared.tables.Pairs.{Pairs}
+use Rattle.checker.specs.declared.parts.Pairs.{Pairs}
 
 -- ---- elements by their positions
 

@@ -5,13 +5,14 @@ use mathlib.Core.Bool.{Bool, true, false, cond}
 use Prim.Native.Nat.{ℕ}
 use native.Mathlib.Omega.{arith}
 use Rattle.text.specs.Bytes.{Bytes}
+use Rattle.tables.specs.Limits.{hasCells, isShort}
 use Rattle.grammar.specs.Tree.{Tree}
 use Rattle.grammar.specs.Texts.{ReadText, taken, refused, readOf, read-sound}
 use Rattle.rules.specs.Result as rules
 use Rattle.rules.specs.Check.{checkOf}
 use Rattle.rules.specs.Sentence.Points.{SentenceOf}
 use Rattle.rules.specs.Sentence.Verified as sentence
-use Rattle.reader.specs.Promise.{not-begun, begun, hasCells, isShort, courseOf}
+use Rattle.reader.specs.Promise.{not-begun, begun, courseOf}
 use Rattle.checker.specs.Promise.{verifies, refuses, checkedSays, answerOf}
 
 pub not-verified : {X : Type 0} {n l : ℕ} → refuses n l ≡ verifies → X

@@ -8,7 +8,7 @@ use lib.IntN.{ℤ, pos}
 use lib.ListN.{length, getD}
 use Rattle.arithmetic.specs.declared.Fraction.{Fraction}
 use Rattle.grammar.specs.Tree.{Term, Multiplier}
-use Rattle.checker.specs.declared.tables.Pairs.{Pairs}
+use Rattle.checker.specs.declared.parts.Pairs.{Pairs}
 
 -- the value with this number: "numerator, denominator by turns"
 unfoldable pub fractionAt : List ℤ → ℕ → Fraction

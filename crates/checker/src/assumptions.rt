@@ -12,8 +12,8 @@ ghost use Rattle.sets.specs.Sets.{bit};
 ghost use Rattle.sets.specs.Course.{unionBit, withoutBit, reasonBit};
 ghost use Rattle.checker.specs.Tables.{cellsAt, NamedBelow};
 ghost use Rattle.checker.specs.Held.{derivationAt, Stands, Found};
-use crate::tables;
-use crate::tables::Frame;
+use crate::parts;
+use crate::parts::Frame;
 
 // Whether row r is an `asm` row.
 fn is_assumption(index: &[u16], rows: &[u16], frame: Frame, r: usize) -> bool
@@ -23,7 +23,7 @@ fn is_assumption(index: &[u16], rows: &[u16], frame: Frame, r: usize) -> bool
     if r < frame.given {
         return false;
     }
-    let cell = tables::reason_at(index, rows, r);
+    let cell = parts::reason_at(index, rows, r);
     index[cell] == 0
 }
 
@@ -71,7 +71,7 @@ fn set_of(
     requires { ⌜ Found frame (now index) (now rows) × (k < frame .derived) ⌝ }
     ensures { λ s. ⌜ ((tree : Tree) (values : List ℤ) → Stands tree frame (now (index .entry)) values (now (rows .entry)) → (j : ℕ) → bit s j ≡ reasonBit tree (now (all .entry)) assumed (derivationAt tree k .reason) j) ⌝ }
 {
-    let cell = tables::reason_at(index, rows, frame.given + k);
+    let cell = parts::reason_at(index, rows, frame.given + k);
     let word = index[cell];
     if word == 0 {
         return sets::single(assumed);

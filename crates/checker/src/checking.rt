@@ -19,10 +19,10 @@ use crate::derivations;
 use crate::objectives;
 use crate::objectives::Best;
 use crate::objectives::Objectives;
+use crate::parts;
+use crate::parts::Frame;
+use crate::parts::Pairs;
 use crate::solutions;
-use crate::tables;
-use crate::tables::Frame;
-use crate::tables::Pairs;
 use grammar::Refusal;
 use reader::Places;
 
@@ -81,7 +81,7 @@ fn check_proof(
     requires { ⌜ Standing frame (now index) (now values) (now rows) ⌝ }
     ensures { λ v. ⌜ ((tree : Tree) (os : List FractionOf) → Stands tree frame (now (index .entry)) (now (values .entry)) (now (rows .entry)) → bestSays best ≡ bestOf (tree .objective .direction) os → verdictSays v ≡ eachFrom (checkDerivation tree os) (length (tree .constraints .rows)) (tree .derivations .derivations) andThen require (isProved tree) 17 (lastPlace word (lastRow tree))) ⌝ }
 {
-    let integers = tables::integers_at(index);
+    let integers = parts::integers_at(index);
     let v = derivations::check_derivations(index, values, rows, frame, integers, best);
     let Verdict::Fine = v else {
         return v;

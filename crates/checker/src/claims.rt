@@ -16,8 +16,8 @@ ghost use Rattle.checker.specs.Held.{EndStands, EndIsThere, ClaimStands,
 ghost use Rattle.checker.specs.Answers.{boundSays, endIn, against, askedSays};
 use crate::assumptions;
 use crate::derivations;
-use crate::tables;
-use crate::tables::Frame;
+use crate::parts;
+use crate::parts::Frame;
 use arithmetic::Fraction;
 use constraint::Sense;
 
@@ -53,7 +53,7 @@ fn end_at(index: &[u16], values: &[i32], cell: usize, number: usize) -> Bound
     if index[cell] == 0 {
         return infinite();
     }
-    let value = tables::fraction_at(values, number);
+    let value = parts::fraction_at(values, number);
     Bound {
         finite: true,
         value: value,
@@ -133,7 +133,7 @@ fn last_is_absurd(index: &[u16], values: &[i32], rows: &[u16], frame: Frame) -> 
     }
     let last = frame.given + frame.derived - 1;
     let objective = frame.objective;
-    let row = tables::constraint_at(index, values, rows, objective, last);
+    let row = parts::constraint_at(index, values, rows, objective, last);
     if constraint::is_absurd(row, frame.variables) {
         is_free(index, rows, frame, last)
     } else {
@@ -157,7 +157,7 @@ fn last_dominates(
     }
     let last = frame.given + frame.derived - 1;
     let objective = frame.objective;
-    let row = tables::constraint_at(index, values, rows, objective, last);
+    let row = parts::constraint_at(index, values, rows, objective, last);
     let sense = sense_asked(frame.maximize);
     let claimed = derivations::objective_with(index, values, objective, sense, bound);
     if constraint::dominates(row, claimed, frame.variables) {

@@ -12,8 +12,8 @@ ghost use Rattle.checker.specs.Tables.{termsAt, multipliersAt, Listed};
 ghost use Rattle.checker.specs.Held.{RowStands, RowIsThere, RowsStand, RowsAreThere};
 ghost use Rattle.checker.specs.Answers.{coefficientsSay, combinationOf, combinationSays};
 use crate::Check;
-use crate::tables;
-use crate::tables::Pairs;
+use crate::parts;
+use crate::parts::Pairs;
 use arithmetic::Arithmetic;
 use arithmetic::Fraction;
 use constraint::Constraint;
@@ -59,7 +59,7 @@ impl Combination {
         let mut left = terms.count;
         while 0 < left {
             let v = index[cell] as usize;
-            let f = tables::fraction_at(values, number);
+            let f = parts::fraction_at(values, number);
             let old = self.coefficients[v];
             let Arithmetic::Value(s) = plus_product(old, factor, f) else {
                 self.fits = false;
@@ -88,9 +88,9 @@ impl Combination {
     {
         let cell = rows[4 * r + 2] as usize;
         let number = rows[4 * r + 3] as usize;
-        let side = tables::side_at(index, objective, cell, number);
+        let side = parts::side_at(index, objective, cell, number);
         let mut made = self.with_terms(index, values, side, factor);
-        let right = tables::fraction_at(values, number);
+        let right = parts::fraction_at(values, number);
         let Arithmetic::Value(s) = plus_product(made.right, factor, right) else {
             made.fits = false;
             return made;
@@ -118,7 +118,7 @@ pub(crate) fn combine(
     let mut left = multipliers.count;
     while 0 < left {
         let r = index[cell] as usize;
-        let factor = tables::fraction_at(values, number);
+        let factor = parts::fraction_at(values, number);
         done = done.next(index, values, rows, objective, r, factor);
         if !done.fits {
             return done;

@@ -20,11 +20,11 @@ ghost use Rattle.checker.specs.Answers.{checkSays, verdictSays, suitable
 use crate::Check;
 use crate::Verdict;
 use crate::objectives::Best;
+use crate::parts;
+use crate::parts::Frame;
+use crate::parts::Pairs;
 use crate::suitable;
 use crate::suitable::Suitable;
-use crate::tables;
-use crate::tables::Frame;
-use crate::tables::Pairs;
 use arithmetic::Fraction;
 use constraint::Constraint;
 use constraint::Sense;
@@ -40,8 +40,8 @@ fn is_spent(index: &[u16], rows: &[u16], frame: Frame, own: usize, r: usize) -> 
     if r < frame.given {
         return false;
     }
-    let cell = tables::reason_at(index, rows, r);
-    let last = tables::last_at(index, cell);
+    let cell = parts::reason_at(index, rows, r);
+    let last = parts::last_at(index, cell);
     if last == 65535 {
         return false;
     }
@@ -79,7 +79,7 @@ fn check_named(index: &[u16], rows: &[u16], frame: Frame, k: usize) -> Check
     ensures { λ c. ⌜ ((tree : Tree) (values : List ℤ) → Stands tree frame (now (index .entry)) values (now (rows .entry)) → (place : ℕ) → checkSays place c ≡ each (λ i. require (not (isSpent (frame .given + k) (entryAt tree i))) 11 place) (named (derivationAt tree k .reason))) ⌝ }
 {
     let own = frame.given + k;
-    let cell = tables::reason_at(index, rows, own);
+    let cell = parts::reason_at(index, rows, own);
     let word = index[cell];
     if word == 3 {
         return check_spent(index, rows, frame, own, cell + 1, 4);
@@ -106,7 +106,7 @@ fn check_dominates(
     ensures { λ c. ⌜ ((tree : Tree) → Stands tree frame (now (index .entry)) (now (values .entry)) (now (rows .entry)) → checkSays (rowAt tree own .name .place) c ≡ checkDominates tree (meant by) (rowAt tree own)) ⌝ }
 {
     let objective = frame.objective;
-    let row = tables::constraint_at(index, values, rows, objective, own);
+    let row = parts::constraint_at(index, values, rows, objective, own);
     if constraint::dominates(by, row, frame.variables) {
         Check::Fine
     } else {
@@ -120,7 +120,7 @@ fn combination_of(index: &[u16], values: &[i32], rows: &[u16], frame: Frame, own
     ensures { λ s. ⌜ ((tree : Tree) → Stands tree frame (now (index .entry)) (now (values .entry)) (now (rows .entry)) → (place : ℕ) → suitableSays place s ≡ suitableCombination tree place (multipliersAt (now (index .entry)) (now (values .entry)) (multipliersOf (now (index .entry)) (now (rows .entry)) own))) ⌝ }
 {
     let objective = frame.objective;
-    let multipliers = tables::multipliers_at(index, rows, own);
+    let multipliers = parts::multipliers_at(index, rows, own);
     suitable::suitable_of(index, values, rows, objective, multipliers, own)
 }
 
@@ -177,8 +177,8 @@ fn is_proper_split(
     ensures { λ b. ⌜ ((tree : Tree) → Stands tree frame (now (index .entry)) (now (values .entry)) (now (rows .entry)) → VariablesAre tree (frame .variables) integers → b ≡ isProperSplit tree first second) ⌝ }
 {
     let objective = frame.objective;
-    let c = tables::constraint_at(index, values, rows, objective, first);
-    let d = tables::constraint_at(index, values, rows, objective, second);
+    let c = parts::constraint_at(index, values, rows, objective, first);
+    let d = parts::constraint_at(index, values, rows, objective, second);
     constraint::is_split(c, d, integers, frame.variables)
 }
 
@@ -203,12 +203,12 @@ fn check_uns(
         return Check::Refused(Refusal::NoProperSplit);
     }
     let objective = frame.objective;
-    let c = tables::constraint_at(index, values, rows, objective, first);
+    let c = parts::constraint_at(index, values, rows, objective, first);
     let check = check_dominates(index, values, rows, frame, own, c);
     let Check::Fine = check else {
         return check;
     };
-    let d = tables::constraint_at(index, values, rows, objective, second);
+    let d = parts::constraint_at(index, values, rows, objective, second);
     check_dominates(index, values, rows, frame, own, d)
 }
 
@@ -223,7 +223,7 @@ pub(crate) fn objective_with(
     requires { ⌜ Listed (now index) (now values) 256 terms ⌝ }
     ensures { λ c. ⌜ ((tree : Tree) → termsAt (now (index .entry)) (now (values .entry)) terms ≡ objective tree → meant c ≡ objectiveWith tree (senseIs sense) right) ⌝ }
 {
-    let coefficients = tables::coefficients_at(index, values, terms);
+    let coefficients = parts::coefficients_at(index, values, terms);
     Constraint {
         coefficients: coefficients,
         right: right,
@@ -268,7 +268,7 @@ fn check_reason(
     ensures { λ c. ⌜ ((tree : Tree) (os : List FractionOf) → Stands tree frame (now (index .entry)) (now (values .entry)) (now (rows .entry)) → VariablesAre tree (frame .variables) integers → bestSays best ≡ bestOf (tree .objective .direction) os → checkSays (rowAt tree (frame .given + k) .name .place) c ≡ checkReason tree os (rowAt tree (frame .given + k)) (derivationAt tree k .reason)) ⌝ }
 {
     let own = frame.given + k;
-    let cell = tables::reason_at(index, rows, own);
+    let cell = parts::reason_at(index, rows, own);
     let word = index[cell];
     if word == 0 {
         return Check::Fine;

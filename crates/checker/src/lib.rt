@@ -9,9 +9,9 @@ mod claims;
 mod combination;
 mod derivations;
 mod objectives;
+mod parts;
 mod solutions;
 mod suitable;
-mod tables;
 
 // What a test of one row or one solution answers: it has nothing to refuse, or a reason.
 pub(crate) enum Check {

@@ -9,8 +9,8 @@ ghost use Rattle.rules.specs.Rows.{objective};
 ghost use Rattle.rules.specs.Solutions.{holds, towards, leftSide};
 ghost use Rattle.checker.specs.Held.{isMaximize, solutionAt, Stands, Standing};
 ghost use Rattle.checker.specs.Answers.{bestSays, nextBest, ObjectivesSay};
+use crate::parts::Frame;
 use crate::solutions;
-use crate::tables::Frame;
 use arithmetic::Arithmetic;
 use arithmetic::Fraction;
 

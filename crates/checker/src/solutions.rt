@@ -15,9 +15,9 @@ ghost use Rattle.checker.specs.Answers.{checkSays, verdictSays};
 use crate::Check;
 use crate::Verdict;
 use crate::combination;
-use crate::tables;
-use crate::tables::Frame;
-use crate::tables::Pairs;
+use crate::parts;
+use crate::parts::Frame;
+use crate::parts::Pairs;
 use arithmetic::Arithmetic;
 use arithmetic::Fraction;
 use grammar::Refusal;
@@ -38,7 +38,7 @@ pub(crate) fn left_side(
     let mut left = terms.count;
     while 0 < left {
         let v = index[cell] as usize;
-        let f = tables::fraction_at(values, number);
+        let f = parts::fraction_at(values, number);
         let x = point[v];
         let Arithmetic::Value(next) = combination::plus_product(sum, f, x) else {
             return Arithmetic::TooWide;
@@ -65,12 +65,12 @@ fn check_row(
 {
     let cell = rows[4 * r + 2] as usize;
     let number = rows[4 * r + 3] as usize;
-    let side = tables::side_at(index, objective, cell, number);
+    let side = parts::side_at(index, objective, cell, number);
     let Arithmetic::Value(left) = left_side(index, values, side, point) else {
         return Check::Refused(Refusal::ResultTooWide);
     };
-    let right = tables::fraction_at(values, number);
-    let sense = tables::sense_at(index[cell]);
+    let right = parts::fraction_at(values, number);
+    let sense = parts::sense_at(index[cell]);
     if constraint::holds(sense, left, right) {
         Check::Fine
     } else {
@@ -127,8 +127,8 @@ pub(crate) fn point_at(index: &[u16], values: &[i32], rows: &[u16], j: usize) ->
 {
     let cell = rows[4 * (1024 + j) + 2] as usize;
     let number = rows[4 * (1024 + j) + 3] as usize;
-    let terms = tables::pairs_at(index, cell, number);
-    tables::coefficients_at(index, values, terms)
+    let terms = parts::pairs_at(index, cell, number);
+    parts::coefficients_at(index, values, terms)
 }
 
 // "values of integer variables are whole, else 9; then each given row in order".

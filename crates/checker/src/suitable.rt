@@ -13,8 +13,8 @@ ghost use Rattle.checker.specs.Held.{RowFound, RowIsFound, RowsStand, Ro
 ghost use Rattle.checker.specs.Answers.{checkSays, suitableSays};
 use crate::Check;
 use crate::combination;
-use crate::tables;
-use crate::tables::Pairs;
+use crate::parts;
+use crate::parts::Pairs;
 use arithmetic::Fraction;
 use constraint::Constraint;
 use grammar::Refusal;
@@ -37,7 +37,7 @@ fn signed_at(index: &[u16], rows: &[u16], r: usize, factor: Fraction) -> i64
     ensures { λ n. ⌜ ((tree : Tree) (row : Row) → RowFound tree (now (index .entry)) (now (rows .entry)) r row → n ≡ signedNumber (row .sense) factor) ⌝ }
 {
     let cell = rows[4 * r + 2] as usize;
-    let sense = tables::sense_at(index[cell]);
+    let sense = parts::sense_at(index[cell]);
     constraint::signed_multiplier(sense, factor)
 }
 
@@ -54,7 +54,7 @@ fn signs_of(index: &[u16], values: &[i32], rows: &[u16], multipliers: Pairs, own
     let mut left = multipliers.count;
     while 0 < left {
         let r = index[cell] as usize;
-        let factor = tables::fraction_at(values, number);
+        let factor = parts::fraction_at(values, number);
         let n = signed_at(index, rows, r, factor);
         nonnegative = nonnegative & (0 <= n);
         nonpositive = nonpositive & (n <= 0);

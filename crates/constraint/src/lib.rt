@@ -14,9 +14,9 @@ ghost use Rattle.rules.specs.Rounding.{isIntegral, canBeRounded, rounded as rou
 ghost use Rattle.rules.specs.Splits.{areAdjacent, isSplit};
 ghost use Rattle.constraint.specs.Meaning.{senseIs, meant, equalOr, VariablesAre, allZero, allSame, mayStand, allIntegral, areNext, withRounding};
 ghost use Rattle.constraint.specs.Signs.{signedNumber, senseBy};
-use fraction::Comparison;
-use fraction::Fraction;
-use fraction::Rounding;
+use arithmetic::Comparison;
+use arithmetic::Fraction;
+use arithmetic::Rounding;
 
 // The largest number of variables.
 const MOST: usize = 256;

@@ -11,6 +11,8 @@ use Rattle.text.specs.Bytes.{Bytes}
 use Rattle.text.specs.Tokens.{Token}
 use Rattle.text.specs.Words as W
 use Rattle.arithmetic.specs.declared.Fraction.{Fraction}
+use Rattle.tables.specs.Limits.{mostVariables, mostRows, mostSolutions, mostAssumptions}
+use Rattle.tables.specs.Words as cell
 use Rattle.grammar.specs.Tree.{Variables, Integers, Term, TermList, Direction, minimize, maximize, Objective, Sense, equal, atMost, atLeast, Side, obj, listed, Row, Constraints, End, infinite, finite, Claim, infeas, range, Relation, Solution, Solutions, Multiplier, MultiplierList, Unsplit, Reason, asm, lin, rnd, uns, sol, Last, never, index, Derivation, Derivations, Tree}
 use Rattle.grammar.specs.Format.{Word, Or, instead, given, word, placed, choice, number, name, rowName, value, or, Format, symbol, then, items, nothing, view}
 
@@ -82,9 +84,9 @@ termList n =
 
 -- "`E` 0, `L` 1, `G` 2"
 abbrev pub senseCell : Sense → ℕ
-senseCell equal = 0
-senseCell atMost = 1
-senseCell atLeast = 2
+senseCell equal = cell.E
+senseCell atMost = cell.L
+senseCell atLeast = cell.G
 
 abbrev pub sense : Format Sense
 sense = oneOf senseCell (means W.E equal ∷ means W.L atMost ∷ means W.G atLeast ∷ [])
@@ -115,7 +117,7 @@ side-back obj = refl
 side-back (listed t) = ap (λ (l : List Term). listed (record { count = t .count; terms = l })) (map-back ofTerm asTerm (λ x. refl) (t .terms))
 
 abbrev pub side : ℕ → Format Side
-side n = view asSide ofSide side-there side-back (then (symbol (or W.OBJ 65535 (number (suc n) []))) (λ k. listedTerms n k))
+side n = view asSide ofSide side-there side-back (then (symbol (or W.OBJ cell.OBJ (number (suc n) []))) (λ k. listedTerms n k))
 
 -- the row with this index, whose name is none of those used
 abbrev pub row : ℕ → ℕ → List Bytes → Format Row
@@ -164,11 +166,11 @@ pub data ReasonWord : Type 0 where
   solWord : ReasonWord
 
 abbrev pub reasonCell : ReasonWord → ℕ
-reasonCell asmWord = 0
-reasonCell linWord = 1
-reasonCell rndWord = 2
-reasonCell unsWord = 3
-reasonCell solWord = 4
+reasonCell asmWord = cell.asm
+reasonCell linWord = cell.lin
+reasonCell rndWord = cell.rnd
+reasonCell unsWord = cell.uns
+reasonCell solWord = cell.sol
 
 abbrev pub reasonWords : List (Word ReasonWord)
 reasonWords = means W.asm asmWord ∷ means W.lin linWord ∷ means W.rnd rndWord ∷ means W.uns unsWord ∷ means W.sol solWord ∷ []
@@ -227,7 +229,7 @@ isAsm solWord = false
 abbrev pub reason : ℕ → ℕ → Format Reason
 reason own assumed =
     view asReason ofReason reason-there reason-back
-    (then (symbol (choice reasonCell reasonWords (λ w. isAsm w && leb 64 assumed))) (λ w. detail own w))
+    (then (symbol (choice reasonCell reasonWords (λ w. isAsm w && leb mostAssumptions assumed))) (λ w. detail own w))
 
 -- ---- "d times a row, `{`, a reason, `}`, a last index"
 
@@ -249,7 +251,7 @@ last-back never = refl
 last-back (index i) = refl
 
 abbrev pub last : ℕ → Format Last
-last rows = view asLast ofLast last-there last-back (symbol (or W.minus-one 65535 (number rows [])))
+last rows = view asLast ofLast last-there last-back (symbol (or W.minus-one cell.never (number rows [])))
 
 abbrev pub isAssumption : Reason → Bool
 isAssumption asm = true
@@ -282,7 +284,7 @@ abbrev pub solution : ℕ → List Solution → Format Solution
 solution n before =
     view {A = (t : Token) × TermList} {B = Solution}
     (λ p. record { name = p .0; values = p .1 }) (λ s. (s .name, s .values)) (λ p. refl) (λ s. refl)
-    (then (symbol (rowName (1024 + length before) [])) (λ t. termList n))
+    (then (symbol (rowName (mostRows + length before) [])) (λ t. termList n))
 
 -- ---- "`infeas`, or `range` and two ends, each a value, or `-inf` for the lower, `inf` for the upper"
 
@@ -305,7 +307,7 @@ end-back (finite f) = refl
 
 -- an end, whose infinite form is this word
 abbrev pub endOr : Bytes → Format End
-endOr w = view asEnd ofEnd end-there end-back (symbol (or w 0 (value (1 ∷ []))))
+endOr w = view asEnd ofEnd end-there end-back (symbol (or w cell.infinite (value (cell.finite ∷ []))))
 
 -- "`infeas` 0, `range` 1"
 pub data ClaimWord : Type 0 where
@@ -313,8 +315,8 @@ pub data ClaimWord : Type 0 where
   rangeWord : ClaimWord
 
 abbrev pub claimCell : ClaimWord → ℕ
-claimCell infeasWord = 0
-claimCell rangeWord = 1
+claimCell infeasWord = cell.infeas
+claimCell rangeWord = cell.range
 
 abbrev pub Ends : ClaimWord → Type 0
 Ends infeasWord = Unit {0}
@@ -349,8 +351,8 @@ claim =
 
 -- "`min` 0, `max` 1"
 abbrev pub directionCell : Direction → ℕ
-directionCell minimize = 0
-directionCell maximize = 1
+directionCell minimize = cell.min
+directionCell maximize = cell.max
 
 abbrev pub direction : Format Direction
 direction = oneOf directionCell (means W.min minimize ∷ means W.max maximize ∷ [])
@@ -370,7 +372,7 @@ variables =
     section W.VAR
     (view {A = (n : ℕ) × List Token} {B = Variables}
     (λ p. record { count = p .0; names = p .1 }) (λ v. (v .count, v .names)) (λ p. refl) (λ v. refl)
-    (then (countTo 256) (λ n. items n (λ before. symbol name))))
+    (then (countTo mostVariables) (λ n. items n (λ before. symbol name))))
 
 -- "`INT`, a count, that many variable indices": "INT 0 to n"
 abbrev pub integers : ℕ → Format Integers
@@ -394,7 +396,7 @@ constraints n =
     section W.CON
     (view {A = (m : ℕ) × ((b : ℕ) × List Row)} {B = Constraints}
     (λ p. record { count = p .0; bounds = p .1 .0; rows = p .1 .1 }) (λ c. (c .count, (c .bounds, c .rows))) (λ p. refl) (λ c. refl)
-    (then (countTo 1024) (λ m. then (countTo m) (λ b. items m (λ before. row n (length before) (rowNames before))))))
+    (then (countTo mostRows) (λ m. then (countTo m) (λ b. items m (λ before. row n (length before) (rowNames before))))))
 
 -- "`RTP`, then .."; the place of the word is kept: 10 names its line
 abbrev pub relation : Format Relation
@@ -409,7 +411,7 @@ solutionSection n =
     section W.SOL
     (view {A = (s : ℕ) × List Solution} {B = Solutions}
     (λ p. record { count = p .0; solutions = p .1 }) (λ s. (s .count, s .solutions)) (λ p. refl) (λ s. refl)
-    (then (countTo 64) (λ s. items s (solution n))))
+    (then (countTo mostSolutions) (λ s. items s (solution n))))
 
 -- "`DER` d, then d times ..": "d 0 to 1,024 - m"; the place of the word is kept: 17 names its line where d is 0
 abbrev pub derivationSection : ℕ → Constraints → Format Derivations
@@ -417,7 +419,7 @@ derivationSection n c =
     view {A = (p : ℕ) × ((d : ℕ) × List Derivation)} {B = Derivations}
     (λ p. record { place = p .0; count = p .1 .0; derivations = p .1 .1 }) (λ d. (d .place, (d .count, d .derivations))) (λ p. refl) (λ d. refl)
     (then (symbol (placed W.DER))
-    (λ p. then (countTo (1024 - c .count)) (λ d. items d (derivation n (c .count) (rowNames (c .rows)) d))))
+    (λ p. then (countTo (mostRows - c .count)) (λ d. items d (derivation n (c .count) (rowNames (c .rows)) d))))
 
 -- ---- the whole
 

@@ -9,6 +9,8 @@ use native.Mathlib.Omega.{arith}
 use lib.ListN.{length, length-append}
 use Rattle.text.specs.Bytes.{Bytes}
 use Rattle.arithmetic.specs.declared.Fraction.{Fraction}
+use Rattle.tables.specs.Limits.{mostRows}
+use Rattle.tables.specs.Words as cell
 use Rattle.grammar.specs.Tree.{Integers, Term, TermList, Objective, Side, obj, listed, Row, Constraints, End, infinite, finite, Claim, infeas, range, Solution, Solutions, Multiplier, MultiplierList, Reason, asm, lin, rnd, uns, sol, Last, never, index, Derivation, Derivations, Tree}
 use Rattle.grammar.specs.Format.{Or, instead, given, Symbol, word, placed, choice, number, name, rowName, value, or, Format, symbol, then, items, nothing, view}
 use Rattle.grammar.specs.Certificate.{Pair, pair, pairList, ofTerm, ofMultiplier, termList, sense, senseCell, Listed, listedTerms, side, row, rowNames, multiplierList, ReasonWord, assumptions, asmWord, linWord, rndWord, unsWord, solWord, detail, Detail, reason, last, derivation, solution, endOr, ClaimWord, infeasWord, rangeWord, claimCell, ofClaim, Ends, ends, claim, directionCell, section, variables, integers, objectiveSection, constraints, relation, solutionSection, derivationSection, certificate}
@@ -30,7 +32,7 @@ termValues t = map (λ (x : Term). x .coefficient) (t .terms)
 
 -- `OBJ` or a term list
 abbrev pub sideCells : Side → List ℕ
-sideCells obj = 65535 ∷ []
+sideCells obj = cell.OBJ ∷ []
 sideCells (listed t) = termCells t
 
 abbrev pub sideValues : Side → List Fraction
@@ -52,11 +54,11 @@ abbrev pub multiplierValues : MultiplierList → List Fraction
 multiplierValues m = map (λ (x : Multiplier). x .factor) (m .multipliers)
 
 abbrev pub reasonCells : Reason → List ℕ
-reasonCells asm = 0 ∷ []
-reasonCells (lin m) = 1 ∷ multiplierCells m
-reasonCells (rnd m) = 2 ∷ multiplierCells m
-reasonCells (uns u) = 3 ∷ u .i1 ∷ u .l1 ∷ u .i2 ∷ u .l2 ∷ []
-reasonCells sol = 4 ∷ []
+reasonCells asm = cell.asm ∷ []
+reasonCells (lin m) = cell.lin ∷ multiplierCells m
+reasonCells (rnd m) = cell.rnd ∷ multiplierCells m
+reasonCells (uns u) = cell.uns ∷ u .i1 ∷ u .l1 ∷ u .i2 ∷ u .l2 ∷ []
+reasonCells sol = cell.sol ∷ []
 
 abbrev pub reasonValues : Reason → List Fraction
 reasonValues asm = []
@@ -66,7 +68,7 @@ reasonValues (uns u) = []
 reasonValues sol = []
 
 abbrev pub lastCell : Last → ℕ
-lastCell never = 65535
+lastCell never = cell.never
 lastCell (index i) = i
 
 -- a derivation: its row, its reason, its last index
@@ -78,16 +80,16 @@ derivationValues d = rowValues (d .row) ++ reasonValues (d .reason)
 
 -- a claim: its word, and a cell for each end; the ends' values
 abbrev pub endCell : End → ℕ
-endCell infinite = 0
-endCell (finite f) = 1
+endCell infinite = cell.infinite
+endCell (finite f) = cell.finite
 
 abbrev pub endValues : End → List Fraction
 endValues infinite = []
 endValues (finite f) = f ∷ []
 
 abbrev pub claimCells : Claim → List ℕ
-claimCells infeas = 0 ∷ []
-claimCells (range lower upper) = 1 ∷ endCell lower ∷ endCell upper ∷ []
+claimCells infeas = cell.infeas ∷ []
+claimCells (range lower upper) = cell.range ∷ endCell lower ∷ endCell upper ∷ []
 
 abbrev pub claimValues : Claim → List Fraction
 claimValues infeas = []
@@ -146,7 +148,7 @@ upFrom n (x ∷ xs) = n ∷ upFrom (n + 1) xs
 abbrev pub treeRows : Tree → List ℕ
 treeRows t =
     upFrom 0 (t .constraints .rows)
-    ++ (upFrom 1024 (t .solutions .solutions)
+    ++ (upFrom mostRows (t .solutions .solutions)
     ++ upFrom (t .constraints .count) (t .derivations .derivations))
 
 -- ---- that this is what Layout.antt gathers
@@ -339,7 +341,7 @@ derivation-lays n m used d before =
     (λ q. then-lays (symbol-lays (word _)) (λ c. last-lays (m + d)))))))
 
 pub solution-lays : (n : ℕ) (before : List Solution)
-    → Lays (solution n before) (λ s. termCells (s .values)) (λ s. termValues (s .values)) (λ s. (1024 + length before) ∷ [])
+    → Lays (solution n before) (λ s. termCells (s .values)) (λ s. termValues (s .values)) (λ s. (mostRows + length before) ∷ [])
 solution-lays n before = view-lays (then-lays (symbol-lays (rowName _ _)) (λ t. terms-lay n))
 
 end-lays : (w : Bytes) → Lays (endOr w) (λ e. endCell e ∷ []) endValues (λ e. [])
@@ -403,11 +405,11 @@ constraints-lay n =
     (λ m. then-lays (symbol-lays (number _ _))
     (λ b. rows-lay length (λ before x. length-append before (x ∷ [])) (λ before. row-lays n (length before) _)))))
 
-pub solutions-lay : (n : ℕ) → Lays (solutionSection n) solutionsCells solutionsValues (λ s. upFrom 1024 (s .solutions))
+pub solutions-lay : (n : ℕ) → Lays (solutionSection n) solutionsCells solutionsValues (λ s. upFrom mostRows (s .solutions))
 solutions-lay n =
     section-lays _
     (view-lays (then-lays (symbol-lays (number _ _))
-    (λ s. rows-lay (λ before. 1024 + length before) (λ before x. omega (arith, length-append before (x ∷ []))) (λ before. solution-lays n before))))
+    (λ s. rows-lay (λ before. mostRows + length before) (λ before x. omega (arith, length-append before (x ∷ []))) (λ before. solution-lays n before))))
 
 derivations-lay : (n : ℕ) (c : Constraints) → Lays (derivationSection n c) derivationsCells derivationsValues (λ d. upFrom (c .count) (d .derivations))
 derivations-lay n c =

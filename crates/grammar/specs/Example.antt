@@ -11,6 +11,7 @@ use Rattle.text.specs.Bytes.{Bytes, isSeparator, isPrintable, isDigit}
 use Rattle.text.specs.Ascii.{ascii}
 use Rattle.text.specs.Comments.{commentsEnd}
 use Rattle.text.specs.Tokens.{Token, rest, streamAt}
+use Rattle.tables.specs.Limits.{indexCells, valueCells, rowCells}
 use Rattle.arithmetic.specs.Quotient.{lowest}
 use Rattle.arithmetic.specs.declared.Fraction.{Fraction}
 use Rattle.integers.specs.Gcd.{gcd, euclid}
@@ -20,7 +21,7 @@ use Rattle.grammar.specs.Tree.{Tree, TermList, maximize, atMost, obj, li
 use Rattle.grammar.specs.Reading.{read}
 use Rattle.grammar.specs.Layout.{gather, marks}
 use Rattle.grammar.specs.Texts.{SpellsTree, Certificate, SpellsCertificate, taken, readOf, read-sound}
-use Rattle.grammar.specs.Tables.{indexCells, valueCells, rowCells, filled, indexTable, valueTable, byTurns, rowTable}
+use Rattle.grammar.specs.Tables.{filled, indexTable, valueTable, byTurns, rowTable}
 
 -- the text
 abbrev pub example : Bytes

@@ -13,6 +13,8 @@ use Rattle.text.specs.BytesLaws.{clash}
 use Rattle.text.specs.Tokens.{Token, isTokenByte, isEnded, FirstToken, HasTokens, TextHasTokens}
 use Rattle.text.specs.TokensLaws.{first-byte}
 use Rattle.text.specs.Words as W
+use Rattle.tables.specs.Limits.{indexCells, valueCells, rowCells, mostVariables, mostRows, mostEntries, mostBytes}
+use Rattle.tables.specs.Words as cell
 use Rattle.arithmetic.specs.Fraction.{IsFraction}
 use Rattle.arithmetic.specs.declared.Fraction.{Fraction}
 use Rattle.value.specs.Spelling.{SpellsValue}
@@ -23,7 +25,7 @@ use Rattle.grammar.specs.Spelling.{SymbolSpelled, ItemsSpelled, Spells}
 use Rattle.grammar.specs.Certificate.{countTo, indexBelow, plainValue, pair, pairList, termList, sense, listedTerms, side, row, unsplit, ReasonWord, asmWord, linWord, rndWord, unsWord, solWord, reasonCell, detail, reason, last, assumptions, solution, endOr, ClaimWord, infeasWord, rangeWord, ends, claim, section, version, variables, integers, objectiveSection, constraints, relation, solutionSection, derivationSection, certificate}
 use Rattle.grammar.specs.Layout.{Mark, symbolCells, symbolValues, gatherItems, gather, cells, values, marks}
 use Rattle.grammar.specs.Texts.{SpellsTree}
-use Rattle.grammar.specs.Tables.{indexCells, valueCells, rowCells, byTurns, rowOf}
+use Rattle.grammar.specs.Tables.{byTurns, rowOf}
 use Rattle.grammar.specs.Contents.{tree-rows}
 use Rattle.grammar.specs.Ranges.{tree-in-range, rows-below}
 use Rattle.grammar.specs.Names.{Each, each-none, each-one, each-append, StandsIn, text-tokens-stand, marks-among}
@@ -271,19 +273,19 @@ listed-narrow n le (given k) = pairs-narrow n le k
 side-narrow : (n : ℕ) → n ≤ 65535 → Narrow 0 0 (side n)
 side-narrow n le =
     narrow-as 0 0 (omega arith)
-    (view-narrow (then-narrow (symbol-narrow (or _ 65535 (number (suc n) [])) (lit< tt, omega arith)) (λ k us p. listed-narrow n le k)))
+    (view-narrow (then-narrow (symbol-narrow (or _ cell.OBJ (number (suc n) [])) (lit< tt, omega arith)) (λ k us p. listed-narrow n le k)))
 
 row-narrow : (n own : ℕ) (used : List Bytes) → n ≤ 65535 → Narrow 0 0 (row n own used)
 row-narrow n own used le =
     narrow-as 0 0 (omega arith)
     (view-narrow (then-narrow (symbol-narrow (rowName own used) tt) (λ t us p. then-narrow sense-narrow (λ c vs q. then-narrow plain-narrow (λ b ws r. side-narrow n le)))))
 
-unsplit-narrow : (own : ℕ) → own ≤ 1024 → Narrow 0 0 (unsplit own)
+unsplit-narrow : (own : ℕ) → own ≤ mostRows → Narrow 0 0 (unsplit own)
 unsplit-narrow own le =
     let i : Narrow 1 0 (indexBelow own) = number-narrow (omega arith) in
     narrow-as 0 0 (omega arith) (view-narrow (then-narrow i (λ a us p. then-narrow i (λ b vs q. then-narrow i (λ c ws r. i)))))
 
-detail-narrow : (own : ℕ) → own ≤ 1024 → (w : ReasonWord) → Narrow 0 0 (detail own w)
+detail-narrow : (own : ℕ) → own ≤ mostRows → (w : ReasonWord) → Narrow 0 0 (detail own w)
 detail-narrow own le asmWord = nothing-narrow
 detail-narrow own le linWord = view-narrow (counted-narrow own (omega arith))
 detail-narrow own le rndWord = view-narrow (counted-narrow own (omega arith))
@@ -297,14 +299,14 @@ reason-cell-fits rndWord = lit< tt
 reason-cell-fits unsWord = lit< tt
 reason-cell-fits solWord = lit< tt
 
-reason-narrow : (own assumed : ℕ) → own ≤ 1024 → Narrow 0 0 (reason own assumed)
+reason-narrow : (own assumed : ℕ) → own ≤ mostRows → Narrow 0 0 (reason own assumed)
 reason-narrow own assumed le =
     narrow-as 0 0 (omega arith) (view-narrow (then-narrow (choice-narrow reason-cell-fits) (λ a us p. detail-narrow own le a)))
 
 last-narrow : (rows : ℕ) → rows ≤ 65535 → Narrow 0 0 (last rows)
-last-narrow rows le = narrow-as 0 0 (omega arith) (view-narrow (symbol-narrow (or _ 65535 (number _ [])) (lit< tt, omega arith)))
+last-narrow rows le = narrow-as 0 0 (omega arith) (view-narrow (symbol-narrow (or _ cell.never (number _ [])) (lit< tt, omega arith)))
 
-derivation-narrow : (n own rows : ℕ) (used : List Bytes) (assumed : ℕ) → n ≤ 65535 → own ≤ 1024 → rows ≤ 65535
+derivation-narrow : (n own rows : ℕ) (used : List Bytes) (assumed : ℕ) → n ≤ 65535 → own ≤ mostRows → rows ≤ 65535
     → Narrow 0 0
     (then (row n own used) (λ r. then (symbol (word W.open-brace)) (λ o. then (reason own assumed) (λ q. then (symbol (word W.close-brace)) (λ c. last rows)))))
 derivation-narrow n own rows used assumed le inside most =
@@ -348,29 +350,29 @@ variables-narrow =
     section-narrow _
     (view-narrow (after-count (omega arith) (λ n le. items-narrow (λ before p. narrow-as 0 0 (omega arith) (symbol-narrow name tt)))))
 
-integers-narrow : (n : ℕ) → n ≤ 256 → Narrow 0 0 (integers n)
+integers-narrow : (n : ℕ) → n ≤ mostVariables → Narrow 0 0 (integers n)
 integers-narrow n le =
     section-narrow _
     (view-narrow (after-count (omega arith) (λ k few. items-narrow (λ before p. narrow-as 0 0 (omega arith) (number-narrow (omega arith))))))
 
-objective-narrow : (n : ℕ) → n ≤ 256 → Narrow 0 0 (objectiveSection n)
+objective-narrow : (n : ℕ) → n ≤ mostVariables → Narrow 0 0 (objectiveSection n)
 objective-narrow n le =
     section-narrow _
     (narrow-as 0 0 (omega arith)
     (view-narrow (then-narrow (choice-narrow (λ a. elim a [ Direction.minimize ↦ lit< tt | Direction.maximize ↦ lit< tt ])) (λ c us p. terms-narrow n (omega arith)))))
 
-constraints-narrow : (n : ℕ) → n ≤ 256 → Narrow 0 0 (constraints n)
+constraints-narrow : (n : ℕ) → n ≤ mostVariables → Narrow 0 0 (constraints n)
 constraints-narrow n le =
     section-narrow _
     (view-narrow (after-count (omega arith)
     (λ m most. after-count (omega arith) (λ b few. items-narrow (λ before p. row-narrow n (length before) _ (omega arith))))))
 
-solutions-narrow : (n : ℕ) → n ≤ 256 → Narrow 0 0 (solutionSection n)
+solutions-narrow : (n : ℕ) → n ≤ mostVariables → Narrow 0 0 (solutionSection n)
 solutions-narrow n le =
     section-narrow _
     (view-narrow (after-count (omega arith) (λ s most. items-narrow (λ before p. solution-narrow n before (omega arith)))))
 
-derivations-narrow : (n : ℕ) (c : Constraints) → n ≤ 256 → c .count ≤ 1024 → Narrow 0 0 (derivationSection n c)
+derivations-narrow : (n : ℕ) (c : Constraints) → n ≤ mostVariables → c .count ≤ mostRows → Narrow 0 0 (derivationSection n c)
 derivations-narrow n c le m =
     narrow-as 0 0 (omega arith)
     (view-narrow (then-narrow (symbol-narrow (placed _) tt)
@@ -381,12 +383,12 @@ certificate-narrow =
     view-narrow (then-narrow version-narrow
     (λ u us p. then-narrow variables-narrow
     (λ v vs q.
-    let n : v .count ≤ 256 = omega (arith, q .4 .3 .2 .in-range) in
+    let n : v .count ≤ mostVariables = omega (arith, q .4 .3 .2 .in-range) in
     then-narrow (integers-narrow (v .count) n)
     (λ i ws r. then-narrow (objective-narrow (v .count) n)
     (λ o xs x. then-narrow (constraints-narrow (v .count) n)
     (λ c ys y.
-    let m : c .count ≤ 1024 = omega (arith, y .4 .3 .2 .in-range) in
+    let m : c .count ≤ mostRows = omega (arith, y .4 .3 .2 .in-range) in
     then-narrow relation-narrow (λ e zs z. then-narrow (solutions-narrow (v .count) n) (λ s ts t. derivations-narrow (v .count) c n m))))))))
 
 -- ---- the whole
@@ -396,7 +398,7 @@ by-turns-length [] = refl
 by-turns-length (f ∷ fs) = omega (arith, by-turns-length fs)
 
 -- a row of numbers that are all below 65,536
-row-fits : (m : Mark) {text : Bytes} → StandsIn text (m .name) → length text ≤ 32768 → m .cells ≤ 16384 → m .values ≤ 16384 → m .row < 1088 → RowFits m
+row-fits : (m : Mark) {text : Bytes} → StandsIn text (m .name) → length text ≤ mostBytes → m .cells ≤ indexCells → m .values ≤ valueCells → m .row < mostEntries → RowFits m
 row-fits m s short c v r =
     record {
       inside = omega arith;
@@ -407,14 +409,14 @@ row-fits m s short c v r =
     }
 
 -- "cells needed": the tables of these sizes hold what is spelled by any text that is not too long
-pub fits : {text : Bytes} {tree : Tree} → SpellsTree text tree → length text ≤ 32768 → Fits tree
+pub fits : {text : Bytes} {tree : Tree} → SpellsTree text tree → length text ≤ mostBytes → Fits tree
 fits {text} {tree} s short =
     let t = certificate-narrow .takes tree (s .tokens) (s .spelled) in
     let range = tree-in-range s in
     let few = text-tokens-few (s .has-tokens) in
     let among = marks-among certificate tree (s .tokens) (s .spelled) 0 0 in
-    let c : length (cells certificate tree) ≤ 16384 = omega (arith, t .cells-few) in
-    let v : 2 * length (values certificate tree) ≤ 16384 = omega (arith, t .values-few) in
+    let c : length (cells certificate tree) ≤ indexCells = omega (arith, t .cells-few) in
+    let v : 2 * length (values certificate tree) ≤ valueCells = omega (arith, t .values-few) in
     record {
       index-inside = c;
       index-numbers = t .cells-narrow;

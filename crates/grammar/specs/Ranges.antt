@@ -13,6 +13,7 @@ use lib.ListN.{length, length-map}
 use Rattle.text.specs.Bytes.{Bytes, same}
 use Rattle.text.specs.BytesLaws.{clash, same-refl}
 use Rattle.text.specs.Tokens.{Token}
+use Rattle.tables.specs.Limits.{mostVariables, mostRows, mostSolutions, mostAssumptions, mostEntries}
 use Rattle.grammar.specs.Tree.{Integers, Term, TermList, Side, obj, listed, Row, Solution, Multiplier, Reason, asm, lin, rnd, uns, sol, Last, never, index, Derivation, Tree}
 use Rattle.grammar.specs.Format.{items}
 use Rattle.grammar.specs.Spelling.{isAmong, ItemsSpelled, Spells}
@@ -68,22 +69,22 @@ rowsOf t = t .constraints .rows ++ map (λ (d : Derivation). d .row) (t .derivat
 
 -- the paragraph "Ranges"
 pub record TreeInRange (t : Tree) : Type 0 where
-  pub variables-most : t .variables .count ≤ 256
+  pub variables-most : t .variables .count ≤ mostVariables
   pub variables-counted : length (t .variables .names) ≡ t .variables .count
   pub integers : InRange (t .variables .count) (t .integers .count) (λ (i : ℕ). i) (t .integers .indices)
   pub objective : TermsInRange (t .variables .count) (t .objective .terms)
-  pub rows-most : t .constraints .count ≤ 1024
+  pub rows-most : t .constraints .count ≤ mostRows
   pub bounds-most : t .constraints .bounds ≤ t .constraints .count
   pub rows-counted : length (t .constraints .rows) ≡ t .constraints .count
   pub sides : Each (λ (r : Row). SideInRange (t .variables .count) (r .side)) (t .constraints .rows)
-  pub solutions-most : t .solutions .count ≤ 64
+  pub solutions-most : t .solutions .count ≤ mostSolutions
   pub solutions-counted : length (t .solutions .solutions) ≡ t .solutions .count
   pub solutions : Each (λ (s : Solution). TermsInRange (t .variables .count) (s .values)) (t .solutions .solutions)
-  pub derivations-most : t .constraints .count + t .derivations .count ≤ 1024
+  pub derivations-most : t .constraints .count + t .derivations .count ≤ mostRows
   pub derivations-counted : length (t .derivations .derivations) ≡ t .derivations .count
   pub derivations : (before : List Derivation) (d : Derivation) (after : List Derivation) → t .derivations .derivations ≡ before ++ (d ∷ after)
       → DerivationInRange (t .variables .count) (t .constraints .count + length before) (t .constraints .count + t .derivations .count) d
-  pub assumptions-most : assumptions (t .derivations .derivations) ≤ 64
+  pub assumptions-most : assumptions (t .derivations .derivations) ≤ mostAssumptions
   pub names-distinct : Distinct (λ (r : Row). r .name .bytes) (rowsOf t)
 
 -- ---- items, one by one
@@ -208,15 +209,15 @@ assumptions-last (d ∷ before) x =
     ap (λ (n : ℕ). cond (isAssumption (d .reason)) (suc n) n) (assumptions-last before x)
     ∙ one-more (isAssumption (d .reason)) (isAssumption (x .reason)) (assumptions before)
 
-one-assumed : (own assumed : ℕ) (r : Reason) (ts : List Token) → assumed ≤ 64 → Spells (reason own assumed) r ts → cond (isAssumption r) (suc assumed) assumed ≤ 64
-one-assumed own assumed asm ts le h = leb-false 64 assumed (h .3 .2 .1)
+one-assumed : (own assumed : ℕ) (r : Reason) (ts : List Token) → assumed ≤ mostAssumptions → Spells (reason own assumed) r ts → cond (isAssumption r) (suc assumed) assumed ≤ mostAssumptions
+one-assumed own assumed asm ts le h = leb-false mostAssumptions assumed (h .3 .2 .1)
 one-assumed own assumed (lin m) ts le h = le
 one-assumed own assumed (rnd m) ts le h = le
 one-assumed own assumed (uns u) ts le h = le
 one-assumed own assumed sol ts le h = le
 
-assumed-most : (n m : ℕ) (used : List Bytes) (d : ℕ) (done xs : List Derivation) (ts : List Token) → assumptions done ≤ 64
-    → ItemsSpelled (λ before x us. Spells (derivation n m used d before) x us) done xs ts → assumptions (done ++ xs) ≤ 64
+assumed-most : (n m : ℕ) (used : List Bytes) (d : ℕ) (done xs : List Derivation) (ts : List Token) → assumptions done ≤ mostAssumptions
+    → ItemsSpelled (λ before x us. Spells (derivation n m used d before) x us) done xs ts → assumptions (done ++ xs) ≤ mostAssumptions
 assumed-most n m used d done [] ts le h = rw (append-nil done) le
 assumed-most n m used d done (x ∷ xs) ts le h =
     rw (← append-assoc done (x ∷ []) xs)
@@ -362,33 +363,33 @@ once-up-from a (x ∷ xs) = (λ m. let r = up-from-range (a + 1) xs a m in omega
 
 -- the rows of a tree that is in range: each below 1,088, and none twice
 module _ {tree : Tree} (t : TreeInRange tree) where
-  after-given : (n : ℕ) → List·Memᴰ n (upFrom 1024 (tree .solutions .solutions) ++ upFrom (tree .constraints .count) (tree .derivations .derivations))
-      → (tree .constraints .count ≤ n) × (n < 1088)
-  after-given n m = either (List·Memᴰ·append-cases (upFrom 1024 (tree .solutions .solutions)) m)
+  after-given : (n : ℕ) → List·Memᴰ n (upFrom mostRows (tree .solutions .solutions) ++ upFrom (tree .constraints .count) (tree .derivations .derivations))
+      → (tree .constraints .count ≤ n) × (n < mostEntries)
+  after-given n m = either (List·Memᴰ·append-cases (upFrom mostRows (tree .solutions .solutions)) m)
     where
-      either : List·Memᴰ n (upFrom 1024 (tree .solutions .solutions)) ⊎ List·Memᴰ n (upFrom (tree .constraints .count) (tree .derivations .derivations))
-          → (tree .constraints .count ≤ n) × (n < 1088)
+      either : List·Memᴰ n (upFrom mostRows (tree .solutions .solutions)) ⊎ List·Memᴰ n (upFrom (tree .constraints .count) (tree .derivations .derivations))
+          → (tree .constraints .count ≤ n) × (n < mostEntries)
       either (inl k) =
-          let r = up-from-range 1024 (tree .solutions .solutions) n k in
+          let r = up-from-range mostRows (tree .solutions .solutions) n k in
           (omega (arith, t .rows-most), omega (arith, t .solutions-most, t .solutions-counted))
       either (inr k) =
           let r = up-from-range (tree .constraints .count) (tree .derivations .derivations) n k in
           (omega arith, omega (arith, t .derivations-most, t .derivations-counted))
 
-  pub rows-below : (n : ℕ) → List·Memᴰ n (treeRows tree) → n < 1088
+  pub rows-below : (n : ℕ) → List·Memᴰ n (treeRows tree) → n < mostEntries
   rows-below n m = either (List·Memᴰ·append-cases (upFrom 0 (tree .constraints .rows)) m)
     where
-      either : List·Memᴰ n (upFrom 0 (tree .constraints .rows)) ⊎ List·Memᴰ n (upFrom 1024 (tree .solutions .solutions) ++ upFrom (tree .constraints .count) (tree .derivations .derivations))
-          → n < 1088
+      either : List·Memᴰ n (upFrom 0 (tree .constraints .rows)) ⊎ List·Memᴰ n (upFrom mostRows (tree .solutions .solutions) ++ upFrom (tree .constraints .count) (tree .derivations .derivations))
+          → n < mostEntries
       either (inl k) = let r = up-from-range 0 (tree .constraints .rows) n k in omega (arith, t .rows-most, t .rows-counted)
       either (inr k) = after-given n k .1
 
   pub rows-once : Once (treeRows tree)
   rows-once =
       once-append (upFrom 0 (tree .constraints .rows)) _ (once-up-from 0 (tree .constraints .rows))
-      (once-append (upFrom 1024 (tree .solutions .solutions)) _ (once-up-from 1024 (tree .solutions .solutions)) (once-up-from (tree .constraints .count) (tree .derivations .derivations))
+      (once-append (upFrom mostRows (tree .solutions .solutions)) _ (once-up-from mostRows (tree .solutions .solutions)) (once-up-from (tree .constraints .count) (tree .derivations .derivations))
       (λ n k l.
-      let r = up-from-range 1024 (tree .solutions .solutions) n k in
+      let r = up-from-range mostRows (tree .solutions .solutions) n k in
       let s = up-from-range (tree .constraints .count) (tree .derivations .derivations) n l in
       omega (arith, t .derivations-most, t .derivations-counted)))
       (λ n k l.

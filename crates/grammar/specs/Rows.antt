@@ -14,13 +14,14 @@ use lib.ListN.{length, getD, take, drop, set, replicate, length-replicate, lengt
 use lib.Seq.{getD-set-other, sets, sets-eq, length-sets, length-take-le}
 use Rattle.text.specs.Bytes.{Bytes}
 use Rattle.text.specs.Tokens.{Token}
+use Rattle.tables.specs.Limits.{rowCells, mostRows}
 use Rattle.arithmetic.specs.declared.Fraction.{Fraction}
 use Rattle.grammar.specs.Tree.{Row, Solution, Derivation, Tree}
 use Rattle.grammar.specs.Format.{Format}
 use Rattle.grammar.specs.Certificate.{rowNames, constraints, solutionSection, derivationSection, certificate}
 use Rattle.grammar.specs.Layout.{Mark, cells, values, marks}
 use Rattle.grammar.specs.Texts.{SpellsTree}
-use Rattle.grammar.specs.Tables.{rowCells, indexTable, byTurns, valueTable, rowOf, laid, rowTable}
+use Rattle.grammar.specs.Tables.{indexTable, byTurns, valueTable, rowOf, laid, rowTable}
 use Rattle.grammar.specs.Fits.{by-turns-length}
 use Rattle.grammar.specs.Ranges.{rowsOf, TreeInRange, cut-append, cut-map, tree-in-range, Once, rows-below, rows-once}
 use Rattle.grammar.specs.Contents.{reasonCells, reasonValues, lastCell, treeRows, markRows, tree-rows, integersCells, objectiveCells, constraintsCells, constraintsValues, claimCells, claimValues, solutionsCells, solutionsValues, derivationsCells, derivationsValues, treeCells, treeValues, tree-cells, tree-values, rowIndexCells, rowValues, derivationCells, derivationValues, termCells, termValues, Lays, row-lays, derivation-lays, solution-lays}
@@ -82,7 +83,7 @@ module _ (tree : Tree) where
 
   -- "Row 1,024+j, solution j: name place, length, cell of its count, number of values read before it"
   pub solution-kept : (before : List Solution) (s : Solution) (after : List Solution) → tree .solutions .solutions ≡ before ++ (s ∷ after)
-      → Kept tree (1024 + length before) (s .name) (termCells (s .values)) (termValues (s .values))
+      → Kept tree (mostRows + length before) (s .name) (termCells (s .values)) (termValues (s .values))
   solution-kept before s after e =
       kept
       (in-solutions (part-view (part-second (part-view (part-second (part-item _ before s after e part-whole))))))

@@ -11,16 +11,6 @@ use Rattle.grammar.specs.Tree.{Tree}
 use Rattle.grammar.specs.Certificate.{certificate}
 use Rattle.grammar.specs.Layout.{Mark, cells, values, marks}
 
--- "cells needed"
-abbrev pub indexCells : ℕ
-indexCells = 16384
-
-abbrev pub valueCells : ℕ
-valueCells = 16384
-
-abbrev pub rowCells : ℕ
-rowCells = 4352
-
 -- these cells, and the filler in every other of a table of this size
 abbrev pub filled : {A : Type 0} → A → ℕ → List A → List A
 filled filler size xs = xs ++ replicate (size - length xs) filler

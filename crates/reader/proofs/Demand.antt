@@ -11,11 +11,12 @@ use lib.ListN.{length, replicate, length-append, length-replicate}
 use borrow.Author.Tests.{le-leb, lt-leb}
 use Rattle.text.specs.Bytes.{Bytes}
 use Rattle.text.specs.Lines.{lineOf}
+use Rattle.tables.specs.Limits.{indexCells, valueCells, rowCells, hasCells, mostBytes}
 use Rattle.grammar.specs.Tree.{Tree}
 use Rattle.grammar.specs.Certificate.{certificate}
 use Rattle.grammar.specs.Layout.{cells, marks}
 use Rattle.grammar.specs.Layout as L
-use Rattle.grammar.specs.Tables.{indexCells, valueCells, rowCells, filled, byTurns, laid, indexTable, valueTable, rowTable}
+use Rattle.grammar.specs.Tables.{filled, byTurns, laid, indexTable, valueTable, rowTable}
 use Rattle.grammar.specs.Texts.{SpellsTree, ReadText, taken, refused, readOf, read-sound, read-complete, taken-certificate, certificate-once}
 use Rattle.grammar.specs.Names.{names-stand}
 use Rattle.grammar.specs.AllNames.{tree-names}
@@ -26,7 +27,7 @@ use Rattle.grammar.specs.declared.Refusal.{Refusal}
 use Rattle.grammar.specs.declared.Refusal.the-variants.{TableTooSmall, TextTooLong}
 use Rattle.reader.specs.Steps.{state}
 use Rattle.reader.specs.Documents.{start, placesOf, Written, AnswersToEnd, ReadsToEnd}
-use Rattle.reader.specs.Promise.{Course, not-begun, begun, hasCells, mostBytes, courseOf, takes, refuses, readingSays, answerOf, tableOf, Holds, Equations, Begun, CertificateRead}
+use Rattle.reader.specs.Promise.{Course, not-begun, begun, courseOf, takes, refuses, readingSays, answerOf, tableOf, Holds, Equations, Begun, CertificateRead}
 use Rattle.reader.specs.declared.Cursor.{Cursor}
 use Rattle.reader.specs.declared.Places.{Places}
 use Rattle.reader.specs.declared.Reading.{Reading}

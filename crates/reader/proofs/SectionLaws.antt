@@ -9,13 +9,13 @@ use lib.IntN.{ℤ, pos}
 use lib.ListN.{length, replicate, length-replicate}
 use Rattle.text.specs.Bytes.{Bytes}
 use Rattle.text.specs.Tokens.{Token, rest}
+use Rattle.tables.specs.Limits.{valueCells}
 use Rattle.grammar.specs.Tree.{End, infinite, finite, infeas}
 use Rattle.grammar.specs.Format.{Symbol, word, placed, number, rowName, or, Format, symbol, items}
 use Rattle.grammar.specs.Certificate.{oneOf, countTo, newIndexBelow, endOr, ClaimWord, infeasWord, rangeWord, claimCell, claim, section}
 use Rattle.grammar.specs.Spelling.{Spells}
 use Rattle.grammar.specs.Agreement.{sound}
 use Rattle.grammar.specs.Layout.{symbolValues, gather, gatherItems, cells}
-use Rattle.grammar.specs.Tables.{valueCells}
 use Rattle.reader.specs.Steps.{State, IndexRoom, ValueRoom, RowRoom, Went, Stopped, any, the, Answers, Reads}
 use Rattle.reader.specs.declared.Cursor.{Cursor}
 use Rattle.reader.specs.declared.Step.{Step}

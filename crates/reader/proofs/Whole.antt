@@ -13,12 +13,12 @@ use Rattle.text.specs.Comments.{commentsEnd}
 use Rattle.text.specs.CommentsLaws.{comments-inside}
 use Rattle.text.specs.Scans.{Found}
 use Rattle.text.specs.Tokens.{Stream, end, token, rest}
+use Rattle.tables.specs.Limits.{indexCells, valueCells, rowCells}
 use Rattle.grammar.specs.Tree.{Tree, Variables, Integers, Objective, Constraints, Solutions, Derivations}
 use Rattle.grammar.specs.Format.{Format, then, view}
 use Rattle.grammar.specs.Certificate.{rowNames, version, variables, integers, objectiveSection, constraints, relation, solutionSection, derivationSection, certificate}
 use Rattle.grammar.specs.Reading.{got, read}
 use Rattle.grammar.specs.Layout.{gather, cells, values, marks}
-use Rattle.grammar.specs.Tables.{indexCells, valueCells, rowCells}
 use Rattle.grammar.specs.Contents.{integersCells, objectiveCells, constraintsCells, termValues, constraintsValues, variables-lay, integers-lay, objective-lay, constraints-lay}
 use Rattle.grammar.specs.Texts.{toTheEnd, refused, readOf}
 use Rattle.grammar.specs.Refusals.{refusalNumber}

@@ -12,10 +12,11 @@ use lib.ListN.{length, replicate}
 use Rattle.text.specs.Bytes.{Bytes}
 use Rattle.text.specs.Lines.{lineOf}
 use Rattle.text.specs.Tokens.{Token}
+use Rattle.tables.specs.Limits.{mostBytes, isShort, indexCells, valueCells, rowCells, hasCells}
 use Rattle.grammar.specs.Tree.{Tree}
 use Rattle.grammar.specs.Certificate.{certificate}
 use Rattle.grammar.specs.Layout.{Mark, marks}
-use Rattle.grammar.specs.Tables.{indexCells, valueCells, rowCells, filled, byTurns, indexTable, valueTable, rowTable}
+use Rattle.grammar.specs.Tables.{filled, byTurns, indexTable, valueTable, rowTable}
 use Rattle.grammar.specs.Texts.{SpellsTree, Certificate, certificateOf, SpellsCertificate, ReadText, taken, refused, readOf}
 use Rattle.grammar.specs.Names.{Each, StandsIn}
 use Rattle.grammar.specs.AllNames.{markNames}
@@ -32,17 +33,6 @@ use Rattle.reader.specs.declared.Reading.the-variants.{Taken, Refused}
 pub data Course : Type 0 where
   not-begun : (reason : ℕ) → Course
   begun : ReadText → Course
-
--- "1 a table is too small"
-abbrev pub hasCells : ℕ → ℕ → ℕ → Bool
-hasCells index values rows = leb indexCells index && (leb valueCells values && leb rowCells rows)
-
--- "2 text over 32,768 bytes"
-abbrev pub mostBytes : ℕ
-mostBytes = 32768
-
-abbrev pub isShort : Bytes → Bool
-isShort text = leb (length text) mostBytes
 
 abbrev pub courseOf : Bytes → ℕ → ℕ → ℕ → Course
 courseOf text index values rows =

@@ -11,10 +11,11 @@ use lib.ListN.{length}
 use lib.Seq.{slice, sets}
 use Rattle.text.specs.Bytes.{Bytes}
 use Rattle.text.specs.Tokens.{Token, rest}
+use Rattle.tables.specs.Limits.{indexCells, valueCells, rowCells, mostBytes}
 use Rattle.grammar.specs.Format.{Symbol, Format}
 use Rattle.grammar.specs.Reading.{got, stopped, read}
 use Rattle.grammar.specs.Layout.{gather, cells, values, Mark, marks}
-use Rattle.grammar.specs.Tables.{byTurns, laid, indexCells, valueCells, rowCells}
+use Rattle.grammar.specs.Tables.{byTurns, laid}
 use Rattle.grammar.specs.Refusals.{refusalNumber}
 use Rattle.reader.specs.declared.Cursor.{Cursor}
 use Rattle.reader.specs.declared.Step.{Step}
@@ -33,14 +34,14 @@ state c index values rows = record { cursor = c; index = index; values = values;
 
 -- each index cell has a token behind it, of two bytes or more with its separator
 pub record IndexRoom (text : Bytes) (c : Cursor) (index : List ℕ) : Type 0 where
-  pub short : length text ≤ 32768
+  pub short : length text ≤ mostBytes
   pub inside : c .at ≤ length text + 1
   pub cells-fit : 2 * c .cells ≤ c .at
   pub index-long : indexCells ≤ length index
 
 -- each value has two tokens behind it
 pub record ValueRoom (text : Bytes) (c : Cursor) (values : List ℤ) : Type 0 where
-  pub short : length text ≤ 32768
+  pub short : length text ≤ mostBytes
   pub inside : c .at ≤ length text + 1
   pub values-fit : 4 * c .values ≤ c .at
   pub values-long : valueCells ≤ length values

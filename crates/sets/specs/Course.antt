@@ -11,6 +11,7 @@ use borrow.Author.Tests.{eqb-true, eqb-false, ltb-true, ltb-false}
 use lib.Dec.{eqb, ltb}
 use lib.ListN.{length, getD, set, take, drop, replicate, length-append, length-set, length-replicate, getD-replicate, length-map, List·getD-map, List·getD-append, List·getD-eq-default}
 use lib.Seq.{take-all, length-take-le, take-suc, split-at, getD-at, getD-set-same, getD-set-other}
+use Rattle.tables.specs.Limits.{mostRows}
 use Rattle.grammar.specs.Tree.{Row, Multiplier, Reason, asm, lin, rnd, uns, sol, Derivation, Tree}
 use Rattle.grammar.specs.Certificate.{isAssumption, assumptions}
 use Rattle.grammar.specs.Ranges.{ReasonInRange, TreeInRange}
@@ -166,11 +167,11 @@ pub record At (tree : Tree) (asms : List ℕ) (sets : List (List ℕ)) (upto n :
   pub increasing : Increasing asms
   pub below : (j : ℕ) → j < length asms → getD asms j 0 < upto
   pub are-asm : (j : ℕ) → j < length asms → IsAssumption (entryAt tree (getD asms j 0))
-  pub whole : length masks ≡ 1024
+  pub whole : length masks ≡ mostRows
   pub shows : Shows asms masks sets
   pub alone : (i : ℕ) → i < upto → IsAssumption (entryAt tree i) → getD sets i [] ≡ i ∷ []
 
-module _ {tree : Tree} {asms : List ℕ} {sets : List (List ℕ)} {own n : ℕ} {masks : List ℕ} (at : At tree asms sets own n masks) (small : own < 1024) where
+module _ {tree : Tree} {asms : List ℕ} {sets : List (List ℕ)} {own n : ℕ} {masks : List ℕ} (at : At tree asms sets own n masks) (small : own < mostRows) where
   -- the next row's set is that of an asm row where it is one
   alone-next : (why : Reason) → HasReason tree own why → (i : ℕ) → i < own + 1 → IsAssumption (entryAt tree i) → getD (sets ++ (setFor sets own why ∷ [])) i [] ≡ i ∷ []
   alone-next why has i h a = go (eqb i own) refl
@@ -230,7 +231,7 @@ pub record Stand (tree : Tree) (k n : ℕ) (masks : List ℕ) : Type 0 where
   pub at : At tree (asmsAfter tree k) (setsAfter tree k) (given tree + k) n masks
 
 -- "all empty at the start"
-pub stand-start : (tree : Tree) → Stand tree 0 0 (replicate 1024 0)
+pub stand-start : (tree : Tree) → Stand tree 0 0 (replicate mostRows 0)
 stand-start tree =
     record {
       at =
@@ -240,7 +241,7 @@ stand-start tree =
             increasing = increasing-none;
             below = λ j h. absurd (omega arith);
             are-asm = λ j h. absurd (omega arith);
-            whole = length-replicate {A = ℕ} 1024 0;
+            whole = length-replicate {A = ℕ} mostRows 0;
             shows = record { each = λ i. rw (none i, List·getD-map {B = List ℕ} (λ (row : Row). []) rows i noRow) (represents-as (λ k. sym (bit-zero k)) (represents-none [])) };
             alone = λ i h a. absurd (subst IsAssumption (entry-given tree i (omega arith)) a);
           };
@@ -249,12 +250,12 @@ stand-start tree =
     rows : List Row
     rows = tree .constraints .rows
 
-    none : (i : ℕ) → getD {A = ℕ} (replicate 1024 0) i 0 ≡ 0
-    none i = go (ltb i 1024) refl
+    none : (i : ℕ) → getD {A = ℕ} (replicate mostRows 0) i 0 ≡ 0
+    none i = go (ltb i mostRows) refl
       where
-        go : (t : Bool) → ltb i 1024 ≡ t → getD {A = ℕ} (replicate 1024 0) i 0 ≡ 0
-        go true e = getD-replicate 1024 i 0 0 (ltb-true i 1024 e)
-        go false e = List·getD-eq-default (replicate 1024 0) 0 {n = i} (omega (arith, ltb-false i 1024 e, length-replicate {A = ℕ} 1024 0))
+        go : (t : Bool) → ltb i mostRows ≡ t → getD {A = ℕ} (replicate mostRows 0) i 0 ≡ 0
+        go true e = getD-replicate mostRows i 0 0 (ltb-true i mostRows e)
+        go false e = List·getD-eq-default (replicate mostRows 0) 0 {n = i} (omega (arith, ltb-false i mostRows e, length-replicate {A = ℕ} mostRows 0))
 
 -- ---- one derivation more
 
@@ -275,7 +276,7 @@ module _ {tree : Tree} (t : TreeInRange tree) {k n : ℕ} {masks : List ℕ} (no
     next : Next derivations k (has .0)
     next = next-is derivations k (has .0) (sym (entry-derived tree k) ∙ ap (entryAt tree) (sym here) ∙ has .1)
 
-    own-small : own < 1024
+    own-small : own < mostRows
     own-small = omega (arith, here, next .within, t .derivations-most, t .derivations-counted, t .rows-counted)
 
     before : given tree + length (take k derivations) ≡ own

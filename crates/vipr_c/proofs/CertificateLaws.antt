@@ -8,6 +8,7 @@ use native.Mathlib.Omega.{arith}
 use lib.IntN.{ℤ}
 use lib.ListN.{length}
 use Rattle.text.specs.Bytes.{Bytes}
+use Rattle.tables.specs.Limits.{mostBytes}
 use Rattle.grammar.specs.Texts.{ReadText, taken, refused}
 use Rattle.grammar.specs.Refusals.{refusalNumber}
 use Rattle.grammar.specs.declared.Refusal.{Refusal}
@@ -15,7 +16,7 @@ use Rattle.grammar.specs.declared.Refusal.the-variants.{TableTooSmall, TextTooL
 use Rattle.rules.specs.Result as rules
 use Rattle.rules.specs.Check.{checkOf}
 use Rattle.reader.specs.Promise as reading
-use Rattle.reader.specs.Promise.{Course, begun, mostBytes, courseOf, CertificateRead}
+use Rattle.reader.specs.Promise.{Course, begun, courseOf, CertificateRead}
 use Rattle.reader.specs.declared.Places.{Places}
 use Rattle.reader.specs.declared.Reading.{Reading}
 use Rattle.reader.specs.declared.Reading.the-variants as read

@@ -14,9 +14,9 @@ use borrow.Author.Tests.{leb-true}
 use Rattle.text.specs.Bytes.{Bytes}
 use Rattle.text.specs.BytesLaws.{both}
 use Rattle.text.specs.Lines.{lineOf}
-use Rattle.grammar.specs.Tables.{indexCells, valueCells, rowCells}
+use Rattle.tables.specs.Limits.{indexCells, valueCells, rowCells, hasCells, mostBytes, isShort}
 use Rattle.grammar.specs.Texts.{ReadText, readOf}
-use Rattle.reader.specs.Promise.{Course, not-begun, begun, hasCells, mostBytes, isShort, courseOf, Begun}
+use Rattle.reader.specs.Promise.{Course, not-begun, begun, courseOf, Begun}
 use Rattle.vipr_c.specs.Certificates.{Reply, reply}
 use Rattle.vipr_c.proofs.Lines.{lines-few}
 

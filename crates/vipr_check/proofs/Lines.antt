@@ -7,7 +7,7 @@ use native.Mathlib.Omega.{arith}
 use lib.ListN.{length, take, length-take}
 use Rattle.io.specs.Counts.{Counts}
 use Rattle.text.specs.Bytes.{Bytes}
-use Rattle.grammar.specs.Tables.{indexCells, valueCells, rowCells}
+use Rattle.tables.specs.Limits.{indexCells, valueCells, rowCells}
 use Rattle.reader.specs.Promise.{courseOf}
 use Rattle.checker.specs.Promise.{answerOf}
 use Rattle.vipr_check.specs.Line.{lineFor, printed}

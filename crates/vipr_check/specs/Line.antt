@@ -10,10 +10,10 @@ use lib.Dec.{ltb}
 use lib.ListN.{getD}
 use Rattle.text.specs.Bytes.{Bytes}
 use Rattle.text.specs.Ascii.{ascii}
+use Rattle.tables.specs.Limits.{indexCells, valueCells, rowCells}
 use Rattle.rules.specs.Sentence.Points.{SentenceOf}
 use Rattle.checker.specs.Promise.{Answer, verifies, refuses, answerOf}
 use Rattle.checker.specs.Means.{verified-means}
-use Rattle.grammar.specs.Tables.{indexCells, valueCells, rowCells}
 use Rattle.reader.specs.Promise.{courseOf}
 use Rattle.vipr_check.specs.declared.Input.{Input}
 use Rattle.vipr_check.specs.declared.Input.the-variants.{Came, Failed}
