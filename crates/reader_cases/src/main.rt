@@ -1,5 +1,7 @@
-// Reads certificates on either side of each rule of reading, and writes what Read a certificate answers; of 01's example also
-// the tables.
+// Reads the certificates of standard input, which are on either side of each rule of reading, and writes what Read a certificate
+// answers; of 01's example also the tables. Then tables and a text of other sizes.
+ghost use Prim.Native.Nat.{_≤_};
+ghost use lib.ListN.{length};
 use reader::Places;
 use reader::Reading;
 
@@ -88,177 +90,33 @@ fn case(name: &[u8], text: &[u8]) {
     answer(reader::read_certificate(text, &mut index, &mut values, &mut rows));
 }
 
-fn taken_and_ended() {
-    case(
-        b"01's example",
-        b"VER 1.0\nVAR 1\nx\nINT 1\n0\nOBJ max\n1 0 1\nCON 1 0\nR1 L 3 1 0 2\nRTP range 1 1\nSOL 1\na 1 0 1\nDER 1\nD1 L 1 OBJ { rnd 1 0 1/2 } -1\n",
-    );
-    case(
-        b"the same on one line, no LF at the end",
-        b"VER 1.0 VAR 1 x INT 1 0 OBJ max 1 0 1 CON 1 0 R1 L 3 1 0 2 RTP range 1 1 SOL 1 a 1 0 1 DER 1 D1 L 1 OBJ { rnd 1 0 1/2 } -1",
-    );
-    case(
-        b"CR LF and tabs",
-        b"VER\t1.0\r\nVAR\t1\r\nx\r\nINT\t1\r\n0\r\nOBJ\tmax\r\n1\t0\t1\r\nCON\t1\t0\r\nR1\tL\t3\t1\t0\t2\r\nRTP\trange\t1\t1\r\nSOL\t1\r\na\t1\t0\t1\r\nDER\t1\r\nD1\tL\t1\tOBJ\t{\trnd\t1\t0\t1/2\t}\t-1\r\n",
-    );
-    case(
-        b"comments with high bytes",
-        b"% \x80\xff\n%\nVER 1.0\nVAR 1\nx\nINT 1\n0\nOBJ max\n1 0 1\nCON 1 0\nR1 L 3 1 0 2\nRTP range 1 1\nSOL 1\na 1 0 1\nDER 1\nD1 L 1 OBJ { rnd 1 0 1/2 } -1\n",
-    );
-    case(
-        b"a comment through CR",
-        b"% a\rVER\nVER 1.0\nVAR 1\nx\nINT 1\n0\nOBJ max\n1 0 1\nCON 1 0\nR1 L 3 1 0 2\nRTP range 1 1\nSOL 1\na 1 0 1\nDER 1\nD1 L 1 OBJ { rnd 1 0 1/2 } -1\n",
-    );
-    case(
-        b"nothing is listed",
-        b"VER 1.0 VAR 0 INT 0 OBJ min 0 CON 0 0 RTP infeas SOL 0 DER 0",
-    );
-    case(
-        b"names like words",
-        b"VER 1.0\nVAR 1\n{\nINT 1\n0\nOBJ max\n1 0 1\nCON 1 0\nOBJ L 3 1 0 2\nRTP range 1 1\nSOL 1\nDER 1 0 1\nDER 1\n} L 1 OBJ { rnd 1 0 1/2 } -1\n",
-    );
-    case(
-        b"leading zeros",
-        b"VER 1.0\nVAR 00001\nx\nINT 1\n0\nOBJ max\n1 0 1\nCON 1 0\nR1 L 3 1 0 2\nRTP range 1 1\nSOL 1\na 1 0 1\nDER 1\nD1 L 0001.000 OBJ { rnd 1 0 1/2 } -1\n",
-    );
-    case(b"no bytes", b"");
-    case(b"separators only", b" \n\t\r\n");
-    case(b"a comment only", b"% VER 1.0");
-    case(b"the end after a count", b"VER 1.0\nVAR 2\nx");
-    case(
-        b"the end within a term list",
-        b"VER 1.0\nVAR 1\nx\nINT 1\n0\nOBJ max\n1 0 1\nCON 1 0\nR1 L 3 1 0\n\n",
-    );
-    case(
-        b"no last index",
-        b"VER 1.0\nVAR 1\nx\nINT 1\n0\nOBJ max\n1 0 1\nCON 1 0\nR1 L 3 1 0 2\nRTP range 1 1\nSOL 1\na 1 0 1\nDER 1\nD1 L 1 OBJ { rnd 1 0 1/2 }",
-    );
+// The place of the next mark from a place on, or the text's end.
+fn next(text: &[u8], from: usize, mark: &[u8]) -> usize
+    requires { ⌜ from ≤ length (now text) ⌝ }
+    ensures { λ r. ⌜ (from ≤ r) × (r ≤ length (now (text .entry))) ⌝ }
+{
+    let mut at = from;
+    while at < text.len() {
+        if text::is_word(text, at, at + mark.len(), mark) {
+            return at;
+        }
+        at += 1;
+    }
+    at
 }
 
-fn misspelled() {
-    case(
-        b"a space before a comment",
-        b" %\nVER 1.0\nVAR 1\nx\nINT 1\n0\nOBJ max\n1 0 1\nCON 1 0\nR1 L 3 1 0 2\nRTP range 1 1\nSOL 1\na 1 0 1\nDER 1\nD1 L 1 OBJ { rnd 1 0 1/2 } -1\n",
-    );
-    case(
-        b"another version",
-        b"VER 1.1\nVAR 1\nx\nINT 1\n0\nOBJ max\n1 0 1\nCON 1 0\nR1 L 3 1 0 2\nRTP range 1 1\nSOL 1\na 1 0 1\nDER 1\nD1 L 1 OBJ { rnd 1 0 1/2 } -1\n",
-    );
-    case(
-        b"a word in another case",
-        b"VER 1.0\nVar 1\nx\nINT 1\n0\nOBJ max\n1 0 1\nCON 1 0\nR1 L 3 1 0 2\nRTP range 1 1\nSOL 1\na 1 0 1\nDER 1\nD1 L 1 OBJ { rnd 1 0 1/2 } -1\n",
-    );
-    case(
-        b"a signed count",
-        b"VER 1.0\nVAR +1\nx\nINT 1\n0\nOBJ max\n1 0 1\nCON 1 0\nR1 L 3 1 0 2\nRTP range 1 1\nSOL 1\na 1 0 1\nDER 1\nD1 L 1 OBJ { rnd 1 0 1/2 } -1\n",
-    );
-    case(
-        b"-1 for a count",
-        b"VER 1.0\nVAR -1\nx\nINT 1\n0\nOBJ max\n1 0 1\nCON 1 0\nR1 L 3 1 0 2\nRTP range 1 1\nSOL 1\na 1 0 1\nDER 1\nD1 L 1 OBJ { rnd 1 0 1/2 } -1\n",
-    );
-    case(
-        b"-1 for an index",
-        b"VER 1.0\nVAR 1\nx\nINT 1\n-1\nOBJ max\n1 0 1\nCON 1 0\nR1 L 3 1 0 2\nRTP range 1 1\nSOL 1\na 1 0 1\nDER 1\nD1 L 1 OBJ { rnd 1 0 1/2 } -1\n",
-    );
-    case(
-        b"1.5-101",
-        b"VER 1.0\nVAR 1\nx\nINT 1\n0\nOBJ max\n1 0 1\nCON 1 0\nR1 L 1.5-101 1 0 2\nRTP range 1 1\nSOL 1\na 1 0 1\nDER 1\nD1 L 1 OBJ { rnd 1 0 1/2 } -1\n",
-    );
-    case(
-        b"a sense",
-        b"VER 1.0\nVAR 1\nx\nINT 1\n0\nOBJ max\n1 0 1\nCON 1 0\nR1 <= 3 1 0 2\nRTP range 1 1\nSOL 1\na 1 0 1\nDER 1\nD1 L 1 OBJ { rnd 1 0 1/2 } -1\n",
-    );
-    case(
-        b"inf below",
-        b"VER 1.0\nVAR 1\nx\nINT 1\n0\nOBJ max\n1 0 1\nCON 1 0\nR1 L 3 1 0 2\nRTP range inf 1\nSOL 1\na 1 0 1\nDER 1\nD1 L 1 OBJ { rnd 1 0 1/2 } -1\n",
-    );
-    case(
-        b"-inf above",
-        b"VER 1.0\nVAR 1\nx\nINT 1\n0\nOBJ max\n1 0 1\nCON 1 0\nR1 L 3 1 0 2\nRTP range 1 -inf\nSOL 1\na 1 0 1\nDER 1\nD1 L 1 OBJ { rnd 1 0 1/2 } -1\n",
-    );
-    case(
-        b"a brace at a word",
-        b"VER 1.0\nVAR 1\nx\nINT 1\n0\nOBJ max\n1 0 1\nCON 1 0\nR1 L 3 1 0 2\nRTP range 1 1\nSOL 1\na 1 0 1\nDER 1\nD1 L 1 OBJ {rnd 1 0 1/2 } -1\n",
-    );
-    case(
-        b"-01 for the last index",
-        b"VER 1.0\nVAR 1\nx\nINT 1\n0\nOBJ max\n1 0 1\nCON 1 0\nR1 L 3 1 0 2\nRTP range 1 1\nSOL 1\na 1 0 1\nDER 1\nD1 L 1 OBJ { rnd 1 0 1/2 } -01\n",
-    );
-    case(
-        b"a byte 127 in a name",
-        b"VER 1.0\nVAR 1\nx\nINT 1\n0\nOBJ max\n1 0 1\nCON 1 0\nR\x7f L 3 1 0 2\nRTP range 1 1\nSOL 1\na 1 0 1\nDER 1\nD1 L 1 OBJ { rnd 1 0 1/2 } -1\n",
-    );
-    case(
-        b"257 variables",
-        b"VER 1.0\nVAR 257\nx\nINT 1\n0\nOBJ max\n1 0 1\nCON 1 0\nR1 L 3 1 0 2\nRTP range 1 1\nSOL 1\na 1 0 1\nDER 1\nD1 L 1 OBJ { rnd 1 0 1/2 } -1\n",
-    );
-}
-
-fn out_of_range() {
-    case(
-        b"an index of a variable that is none",
-        b"VER 1.0\nVAR 1\nx\nINT 1\n1\nOBJ max\n1 0 1\nCON 1 0\nR1 L 3 1 0 2\nRTP range 1 1\nSOL 1\na 1 0 1\nDER 1\nD1 L 1 OBJ { rnd 1 0 1/2 } -1\n",
-    );
-    case(
-        b"more terms than variables",
-        b"VER 1.0\nVAR 1\nx\nINT 1\n0\nOBJ max\n1 0 1\nCON 1 0\nR1 L 3 2 0 2\nRTP range 1 1\nSOL 1\na 1 0 1\nDER 1\nD1 L 1 OBJ { rnd 1 0 1/2 } -1\n",
-    );
-    case(
-        b"b over m",
-        b"VER 1.0\nVAR 1\nx\nINT 1\n0\nOBJ max\n1 0 1\nCON 1 2\nR1 L 3 1 0 2\nRTP range 1 1\nSOL 1\na 1 0 1\nDER 1\nD1 L 1 OBJ { rnd 1 0 1/2 } -1\n",
-    );
-    case(
-        b"65 solutions",
-        b"VER 1.0\nVAR 1\nx\nINT 1\n0\nOBJ max\n1 0 1\nCON 1 0\nR1 L 3 1 0 2\nRTP range 1 1\nSOL 65\na 1 0 1\nDER 1\nD1 L 1 OBJ { rnd 1 0 1/2 } -1\n",
-    );
-    case(
-        b"1,024 derivations after a row",
-        b"VER 1.0\nVAR 1\nx\nINT 1\n0\nOBJ max\n1 0 1\nCON 1 0\nR1 L 3 1 0 2\nRTP range 1 1\nSOL 1\na 1 0 1\nDER 1024\nD1 L 1 OBJ { rnd 1 0 1/2 } -1\n",
-    );
-    case(
-        b"a row that names itself",
-        b"VER 1.0\nVAR 1\nx\nINT 1\n0\nOBJ max\n1 0 1\nCON 1 0\nR1 L 3 1 0 2\nRTP range 1 1\nSOL 1\na 1 0 1\nDER 1\nD1 L 1 OBJ { rnd 1 1 1/2 } -1\n",
-    );
-    case(
-        b"a last index that is none",
-        b"VER 1.0\nVAR 1\nx\nINT 1\n0\nOBJ max\n1 0 1\nCON 1 0\nR1 L 3 1 0 2\nRTP range 1 1\nSOL 1\na 1 0 1\nDER 1\nD1 L 1 OBJ { rnd 1 0 1/2 } 2\n",
-    );
-    case(
-        b"a variable twice",
-        b"VER 1.0\nVAR 2\nx y\nINT 1\n0\nOBJ max\n1 0 1\nCON 1 0\nR1 L 3 2 0 2 0 2\nRTP range 1 1\nSOL 1\na 1 0 1\nDER 1\nD1 L 1 OBJ { rnd 1 0 1/2 } -1\n",
-    );
-    case(
-        b"a name twice",
-        b"VER 1.0\nVAR 1\nx\nINT 1\n0\nOBJ max\n1 0 1\nCON 1 0\nR1 L 3 1 0 2\nRTP range 1 1\nSOL 1\na 1 0 1\nDER 1\nR1 L 1 OBJ { rnd 1 0 1/2 } -1\n",
-    );
-    case(
-        b"two names with one fingerprint",
-        b"VER 1.0\nVAR 1\nx\nINT 1\n0\nOBJ max\n1 0 1\nCON 2 0\nAa L 3 1 0 2\nBB L 3 1 0 2\nRTP range 1 1\nSOL 1\na 1 0 1\nDER 1\nCC L 1 OBJ { rnd 1 0 1/2 } -1\n",
-    );
-    case(
-        b"the first of them again",
-        b"VER 1.0\nVAR 1\nx\nINT 1\n0\nOBJ max\n1 0 1\nCON 2 0\nAa L 3 1 0 2\nBB L 3 1 0 2\nRTP range 1 1\nSOL 1\na 1 0 1\nDER 1\nAa L 1 OBJ { rnd 1 0 1/2 } -1\n",
-    );
-    case(
-        b"one name over another",
-        b"VER 1.0\nVAR 1\nx\nINT 1\n0\nOBJ max\n1 0 1\nCON 1 0\nR1 L 3 1 0 2\nRTP range 1 1\nSOL 1\na 1 0 1\nDER 1\nR L 1 OBJ { rnd 1 0 1/2 } -1\n",
-    );
-    case(
-        b"a value beyond the limit",
-        b"VER 1.0\nVAR 1\nx\nINT 1\n0\nOBJ max\n1 0 1\nCON 1 0\nR1 L 2147483648 1 0 2\nRTP range 1 1\nSOL 1\na 1 0 1\nDER 1\nD1 L 1 OBJ { rnd 1 0 1/2 } -1\n",
-    );
-    case(
-        b"a value that is too small",
-        b"VER 1.0\nVAR 1\nx\nINT 1\n0\nOBJ max\n1 0 1\nCON 1 0\nR1 L 3 1 0 2\nRTP range 1 1\nSOL 1\na 1 0 1\nDER 1\nD1 L 1 OBJ { rnd 1 0 0.0000000001 } -1\n",
-    );
-    case(
-        b"a token after the end",
-        b"VER 1.0\nVAR 1\nx\nINT 1\n0\nOBJ max\n1 0 1\nCON 1 0\nR1 L 3 1 0 2\nRTP range 1 1\nSOL 1\na 1 0 1\nDER 1\nD1 L 1 OBJ { rnd 1 0 1/2 } -1\nx",
-    );
-    case(
-        b"a comment after the end",
-        b"VER 1.0\nVAR 1\nx\nINT 1\n0\nOBJ max\n1 0 1\nCON 1 0\nR1 L 3 1 0 2\nRTP range 1 1\nSOL 1\na 1 0 1\nDER 1\nD1 L 1 OBJ { rnd 1 0 1/2 } -1\n% end\n",
-    );
+// Each case of a text: a line with `=`, a space and its name, and then its text, up to the LF before the next such line.
+fn cases(text: &[u8]) {
+    let mut at = 0;
+    while at < text.len() {
+        let name_end = next(text, at, b"\n");
+        let end = next(text, name_end, b"\n=");
+        case(
+            text::part(text, at + 2, name_end),
+            text::part(text, name_end + 1, end),
+        );
+        at = end + 1;
+    }
 }
 
 // 01's example: its 24 index cells and the cell after them, rows 0, 1 and 1,024, and the cells after them.
@@ -347,9 +205,9 @@ fn long_text() {
 }
 
 fn main() {
-    taken_and_ended();
-    misspelled();
-    out_of_range();
+    let mut input = io::large_buffer();
+    let n = io::read_full(0, &mut input);
+    cases(&input[..n]);
     example();
     small_index();
     small_values();
