@@ -21,6 +21,8 @@ pub fn to_verify() -> Vec<Case> {
         Case { name: "solutions, fractions", text: solutions(true) },
         Case { name: "branching, 6 variables", text: branching(6) },
         Case { name: "branching, 64 variables", text: branching(64) },
+        Case { name: "branching, 128 variables", text: branching(128) },
+        Case { name: "branching, 256 variables", text: branching(256) },
     ]
 }
 

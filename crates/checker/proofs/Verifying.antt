@@ -11,7 +11,7 @@ use lib.Dec.{leb}
 use lib.IntN.{ℤ, pos}
 use lib.ListN.{length}
 use Rattle.text.specs.Bytes.{Bytes}
-use Rattle.tables.specs.Limits.{indexCells, valueCells, rowCells, hasCells, isShort, mostBytes}
+use Rattle.tables.specs.Limits.{indexCells, valueCells, rowCells, hasCells, isShort}
 use Rattle.arithmetic.specs.Meaning.{and-true, true-and}
 use Rattle.grammar.specs.Tree.{Tree}
 use Rattle.grammar.specs.Tables.{indexTable, valueTable, rowTable}
@@ -26,11 +26,11 @@ use Rattle.reader.specs.Promise.{Course, not-begun, begun, courseOf, tableOf, B
 use Rattle.reader.specs.declared.Places.{Places}
 use Rattle.reader.specs.declared.Reading.{Reading}
 use Rattle.reader.specs.declared.Reading.the-variants as read
-use Rattle.checker.specs.Held.{Held, CertificateIsThere}
-use Rattle.checker.specs.Answers.{verdictSays}
+use Rattle.encoding.specs.Held.{Held}
+use Rattle.verdicts.specs.Verdicts.{verdictSays}
+use Rattle.verdicts.specs.declared.Verdict.{Verdict}
 use Rattle.checker.specs.Means.{not-verified, passes, verified-means}
 use Rattle.checker.specs.Promise.{verifies, refuses, verificationSays, checkedSays, answerOf, CertificateVerified}
-use Rattle.checker.specs.declared.Verdict.{Verdict}
 use Rattle.checker.specs.declared.Verification.{Verification}
 use Rattle.checker.specs.declared.Verification.the-variants.{Verified, Refused}
 
@@ -105,7 +105,6 @@ module _ (text : Bytes) (index : List ℕ) (values : List ℤ) (rows : List ℕ)
             record {
               text = text;
               spelled = read-sound text (t .tree) (b .reads);
-              short = leb-true (length text) mostBytes (b .short);
               index-is = ei ∙ ap (tableOf 0 indexTable index) (t .course-is) ∙ ap (λ (n : ℕ). indexTable n (t .tree)) (sym li);
               values-is = ev ∙ ap (tableOf (pos 0) valueTable values) (t .course-is) ∙ ap (λ (n : ℕ). valueTable n (t .tree)) (sym lv);
               rows-is = er ∙ ap (tableOf 0 rowTable rows) (t .course-is) ∙ ap (λ (n : ℕ). rowTable n (t .tree)) (sym lr);
@@ -166,11 +165,7 @@ module _ {text : Bytes} {index : List ℕ} {values : List ℤ} {rows : List ℕ}
         let q = h .equations in
         taken-held text index values rows index′ values′ rows′ places (sym (ap reading.readingSays e) ∙ q .answer) (q .index-table) (q .value-table) (q .row-table) li lv lr
 
-    -- the tables hold what was read
-    pub certificate-there : CertificateIsThere index′ values′ rows′ places
-    certificate-there = (the-tree .tree, the-tree .held, the-tree .places-are)
-
-    -- and it was checked
+    -- the tables hold what was read, and it was checked
     pub checked-verified : {v w : Verdict} (a : Verification) → ((tree : Tree) → Held tree index′ values′ rows′ → places ≡ placesOf tree → verdictSays v ≡ checkOf tree)
         → v ≡ w → verificationSays a ≡ checkedSays text (verdictSays w)
         → CertificateVerified text index values rows index′ values′ rows′ a

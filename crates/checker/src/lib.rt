@@ -2,28 +2,9 @@
 ghost use Rattle.checker.specs.Promise.{CertificateVerified};
 use grammar::Refusal;
 use reader::Reading;
+use verdicts::Verdict;
 
-mod assumptions;
 mod checking;
-mod claims;
-mod combination;
-mod derivations;
-mod objectives;
-mod parts;
-mod solutions;
-mod suitable;
-
-// What a test of one row or one solution answers: it has nothing to refuse, or a reason.
-pub(crate) enum Check {
-    Fine,
-    Refused(Refusal),
-}
-
-// What a test of several answers: nothing to refuse, or the first reason and the place of the name that it is refused at.
-pub(crate) enum Verdict {
-    Fine,
-    Refused(Refusal, usize),
-}
 
 // What verifying a certificate answers: it is verified; or it was refused, for a reason and at a line.
 pub enum Verification {

@@ -20,3 +20,4 @@ pub mod Ranges
 pub mod Fits
 pub mod Positions
 pub mod Rows
+pub mod Header

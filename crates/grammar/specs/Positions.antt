@@ -3,11 +3,11 @@
 -- Assumes nothing.
 use mathlib.Core.Path.{_≡_, refl, sym, _∙_, ap, ap₂, subst, subst₂}
 use mathlib.Core.List.{List, [], _∷_, _++_, append-assoc, append-nil, List·Memᴰ, List·Memᴰ·head, Memᴰ·append-left, Memᴰ·append-right}
-use Prim.Native.Nat.{ℕ, _+_, _≤_, _<_}
+use Prim.Native.Nat.{ℕ, suc, _+_, _≤_, _<_}
 use native.Mathlib.Nat.{add-zero, add-assoc}
 use native.Mathlib.Omega.{arith}
 use lib.ListN.{length, getD, take, drop, length-append, List·getD-append}
-use lib.Seq.{slice, take-at, drop-at, getD-append-add}
+use lib.Seq.{slice, split-at, take-at, drop-at, length-take-le, getD-append-add}
 use Rattle.text.specs.Bytes.{Bytes}
 use Rattle.text.specs.BytesLaws.{slice-take}
 use Rattle.text.specs.Tokens.{Token}
@@ -68,6 +68,29 @@ module _ {A : Type 0} {all : List A} {position : ℕ} {xs : List A} (h : StandsA
 pub stands-part : {A : Type 0} {all : List A} {position : ℕ} (xs ys : List A) → StandsAt all position (xs ++ ys) → StandsAt all position xs
 stands-part {A} xs ys h =
     record { before = h .before; after = ys ++ h .after; cut = h .cut ∙ ap (λ (l : List A). h .before ++ l) (append-assoc xs ys (h .after)); from = h .from }
+
+module _ {A : Type 0} where
+  -- the second of two parts, one after the other
+  pub stands-rest : {all : List A} {i : ℕ} (xs ys : List A) → StandsAt all i (xs ++ ys) → StandsAt all (i + length xs) ys
+  stands-rest xs ys h =
+      record {
+        before = h .before ++ xs;
+        after = h .after;
+        cut = h .cut ∙ ap (λ (l : List A). h .before ++ l) (append-assoc xs ys (h .after)) ∙ sym (append-assoc (h .before) xs (ys ++ h .after));
+        from = length-append (h .before) xs ∙ ap (λ (n : ℕ). n + length xs) (h .from);
+      }
+
+  -- the first element of a part, and those after it
+  pub stands-here : {all : List A} {i : ℕ} {x : A} {xs : List A} → StandsAt all i (x ∷ xs) → (d : A) → getD all i d ≡ x
+  stands-here {all} {i} h d = sym (ap (λ (n : ℕ). getD all n d) (add-zero i)) ∙ stands-get h 0 d (omega arith)
+
+  pub stands-next : {all : List A} {i : ℕ} {x : A} {xs : List A} → StandsAt all i (x ∷ xs) → StandsAt all (i + 1) xs
+  stands-next {x = x} {xs = xs} h = stands-rest (x ∷ []) xs h
+
+  -- an element of a list stands in it
+  pub stands-one : (xs : List A) (k : ℕ) (d : A) → k < length xs → StandsAt xs k (getD xs k d ∷ [])
+  stands-one xs k d le =
+      record { before = take k xs; after = drop (suc k) xs; cut = split-at xs k d le; from = length-take-le k xs (omega arith) }
 
 pub stands-whole : {A : Type 0} (xs : List A) → StandsAt xs 0 xs
 stands-whole xs = record { before = []; after = []; cut = sym (append-nil xs); from = refl }

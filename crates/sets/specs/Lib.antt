@@ -1,6 +1,3 @@
--- Sets of assumptions as masks, in reading order: membership, and that a mask is its members; how a mask represents one of
--- the sets of rules; the masks of a whole certificate, derivation after derivation.
+-- Masks as sets of numbers: what they mean, and that a mask is its members.
 pub mod Sets
 pub mod SetsLaws
-pub mod Represents
-pub mod Course

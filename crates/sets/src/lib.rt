@@ -1,10 +1,10 @@
 // Sets of numbers below 64 as masks, a bit for each number. Each contract says which numbers the result has; a mask is its
 // bits (specs/SetsLaws.antt), so that it says the whole result.
 ghost use mathlib.Core.Path.{_≡_};
-ghost use mathlib.Core.Bool.{_&&_};
+ghost use mathlib.Core.Bool.{true, _&&_};
+ghost use mathlib.Core.Logic.{_↔_};
 ghost use Prim.Native.Nat.{ℕ, _-_, max};
 ghost use lib.Dec.{eqb, ltb};
-ghost use Rattle.rules.specs.Tests.{Decides};
 ghost use Rattle.sets.specs.Sets.{bit, one};
 
 // The members of both.
@@ -30,7 +30,7 @@ pub fn single(k: usize) -> u64
 
 // The set has no member.
 pub fn is_empty(a: u64) -> bool
-    ensures { λ r. ⌜ Decides r ((k : ℕ) → bit a k ≡ 0) ⌝ }
+    ensures { λ r. ⌜ (r ≡ true) ↔ ((k : ℕ) → bit a k ≡ 0) ⌝ }
 {
     a == 0
 }

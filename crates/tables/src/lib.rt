@@ -160,8 +160,8 @@ pub fn solution_at(rows: &[u16], j: usize) -> Entry
 
 // ---- lists, as parts of the tables
 
-// So many cells from this one on.
-pub fn indices_of(index: &[u16], cell: usize, count: usize) -> &[u16]
+// So many cells of the index table, from this one on.
+pub fn cells_of(index: &[u16], cell: usize, count: usize) -> &[u16]
     ensures { λ r. ⌜ now r ≡ part cell count (now (index .entry)) ⌝ }
 {
     let n = index.len();
@@ -175,11 +175,20 @@ pub fn indices_of(index: &[u16], cell: usize, count: usize) -> &[u16]
     &index[cell..end]
 }
 
-// So many values from this number on, numerator and denominator by turns.
-pub fn values_of(values: &[i32], number: usize, count: usize) -> &[i32]
-    ensures { λ r. ⌜ now r ≡ part (2 * number) (2 * count) (now (values .entry)) ⌝ }
+// The indices of listed pairs.
+pub fn indices_of(index: &[u16], p: Pairs) -> &[u16]
+    ensures { λ r. ⌜ now r ≡ part (p .cell) (p .count) (now (index .entry)) ⌝ }
+{
+    cells_of(index, p.cell, p.count)
+}
+
+// The values of listed pairs, numerator and denominator by turns.
+pub fn values_of(values: &[i32], p: Pairs) -> &[i32]
+    ensures { λ r. ⌜ now r ≡ part (2 * p .number) (2 * p .count) (now (values .entry)) ⌝ }
 {
     let n = values.len();
+    let number = p.number;
+    let count = p.count;
     if n < number {
         return &values[..0];
     }

@@ -5,7 +5,7 @@ use Rattle.checker.proofs.verify.Tie as tie
 use mathlib.Core.Path.{refl, ap}
 use Rattle.grammar.specs.Refusals.{refusalNumber}
 use Rattle.checker.specs.Promise.{refuses}
-use Rattle.checker.proofs.Verifying.{refused-verified, certificate-there, checked-verified}
+use Rattle.checker.proofs.Verifying.{refused-verified, checked-verified}
 
 read-certificate-requires : tie.Need-read-certificate-requires
 read-certificate-requires c κs = search needs
@@ -17,9 +17,7 @@ enum-known-places : tie.Need-enum-known-places
 enum-known-places c = search needs
 
 check-requires : tie.Need-check-requires
-check-requires c κs =
-    let w = c .before .before .before .before .before .before .before .before .before .before .before .read-certificate in
-    certificate-there (w .ensures) (w .kept .1 .0) (w .kept .1 .1 .0) (w .kept .1 .1 .1 .0) _ (c .before .before .before .before .places .given .1)
+check-requires c κs = search needs
 
 enum-told : tie.Need-enum-told
 enum-told c = search needs

@@ -49,7 +49,8 @@ part-result-end c = search needs
 returns-4 : tie.Need-returns-4
 returns-4 c =
     let a = c .before .before .before .before .args in
-    part-cut (a .values .now) (2 * a .number) (2 * a .count) (2 * (a .number + a .count)) (omega arith) (omega arith)
+    let p = a .p in
+    part-cut (a .values .now) (2 * p .number) (2 * p .count) (2 * (p .number + p .count)) (omega arith) (omega arith)
 
 pub values-of-spec : {M : Type 1} → statement M
 values-of-spec =

@@ -1,0 +1,53 @@
+-- `claims::proving::dominates_objective` meets its contract: what the arrays, the comparison and the sense stand for.
+-- Assumes nothing.
+use borrow.Author.Needs.{needs}
+use Rattle.claims.proofs.ProvingLaws.{dominating-row}
+use Rattle.claims.proofs.proving.dominates_objective.Statement.{statement}
+use Rattle.claims.proofs.proving.dominates_objective.Tie as tie
+
+indices-of-requires : tie.Need-indices-of-requires
+indices-of-requires c κs = search needs
+
+values-of-requires : tie.Need-values-of-requires
+values-of-requires c κs = search needs
+
+coefficients-of-requires : tie.Need-coefficients-of-requires
+coefficients-of-requires c κs = search needs
+
+indices-of-requires-2 : tie.Need-indices-of-requires-2
+indices-of-requires-2 c κs = search needs
+
+values-of-requires-2 : tie.Need-values-of-requires-2
+values-of-requires-2 c κs = search needs
+
+compare-requires : tie.Need-compare-requires
+compare-requires c κs = search needs
+
+sense-asked-requires : tie.Need-sense-asked-requires
+sense-asked-requires c κs = search needs
+
+dominates-requires : tie.Need-dominates-requires
+dominates-requires c κs = search needs
+
+returns : tie.Need-returns
+returns c =
+    let m = c .before .before in
+    let o = m .before .before .before .before in
+    let t = o .before .before in
+    λ tree rows x e is formed bound.
+    dominating-row tree is formed (t .before .before .indices-of .ensures) (t .before .values-of .ensures) e (o .before .indices-of2 .ensures) (o .values-of2 .ensures) _ (t .coefficients-of .ensures)
+    _ (c .before .sense-asked .result) _ bound (c .before .sense-asked .ensures) (m .compare .ensures) (c .dominates .ensures)
+
+pub dominates-objective-spec : {M : Type 1} → statement M
+dominates-objective-spec =
+    tie.close
+    (tie.spec
+    indices-of-requires
+    values-of-requires
+    coefficients-of-requires
+    indices-of-requires-2
+    values-of-requires-2
+    compare-requires
+    sense-asked-requires
+    dominates-requires
+    returns)

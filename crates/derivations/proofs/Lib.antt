@@ -1,0 +1,6 @@
+-- Laws over plain values that the functions' proofs cite.
+mod Refusals
+mod RowsLaws
+mod SpentLaws
+mod CombiningLaws
+mod ReasonsLaws

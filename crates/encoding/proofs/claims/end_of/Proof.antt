@@ -1,0 +1,49 @@
+use mathlib.Core.Path.{sym, ap, _∙_}
+use mathlib.Core.Bool.{Bool}
+use Rattle.encoding.specs.Claims.{claim-word, endIn}
+-- `encoding::claims::end_of` meets its contract: the lower or the upper end of a range; none of `infeas`.
+use Rattle.encoding.proofs.ClaimsLaws.{no-end, upper-end, lower-end}
+use borrow.Author.Needs.{needs}
+use Rattle.encoding.proofs.claims.end_of.Statement.{statement}
+use Rattle.encoding.proofs.claims.end_of.Tie as tie
+
+is-infeas-requires : tie.Need-is-infeas-requires
+is-infeas-requires c κs = search needs
+
+returns : tie.Need-returns
+returns c = λ x h. no-end _ x (sym (c .before .is-infeas .ensures x (claim-word _ _ _ _ x h)) ∙ c .if1 .taken)
+
+cell-from-requires : tie.Need-cell-from-requires
+cell-from-requires c κs = search needs
+
+end-at-requires : tie.Need-end-at-requires
+end-at-requires c κs = search needs
+
+end-at-requires-2 : tie.Need-end-at-requires-2
+end-at-requires-2 c κs = search needs
+
+returns-2 : tie.Need-returns-2
+returns-2 c =
+    let i = c .before .before .before .before in
+    λ x h.
+    upper-end _ _ _ _ x h (sym (i .is-infeas .ensures x (claim-word _ _ _ _ x h)) ∙ c .before .before .before .if1 .left) (c .before .cell-from .ensures .is) (c .end-at .ensures)
+    ∙ ap (λ (b : Bool). endIn b x) (sym (c .before .before .if2 .taken))
+
+returns-3 : tie.Need-returns-3
+returns-3 c =
+    let i = c .before .before .before in
+    λ x h.
+    lower-end _ _ _ _ x h (sym (i .is-infeas .ensures x (claim-word _ _ _ _ x h)) ∙ c .before .before .if1 .left) (c .end-at2 .ensures)
+    ∙ ap (λ (b : Bool). endIn b x) (sym (c .before .if2 .left))
+
+pub end-of-spec : {M : Type 1} → statement M
+end-of-spec =
+    tie.close
+    (tie.spec
+    is-infeas-requires
+    returns
+    cell-from-requires
+    end-at-requires
+    end-at-requires-2
+    returns-2
+    returns-3)

@@ -1,0 +1,4 @@
+-- Laws over plain values that the functions' proofs cite.
+mod Lists
+mod LeftSides
+mod ObjectivesLaws

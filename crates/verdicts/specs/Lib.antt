@@ -1,0 +1,2 @@
+-- What the answers of tests say.
+pub mod Verdicts
