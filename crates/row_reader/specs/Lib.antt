@@ -1,0 +1,2 @@
+-- Formats as the readers of lists, rows and derivations read them.
+pub mod Parts

@@ -1,0 +1,41 @@
+-- `symbol_reader::numbers::read_count` meets its contract: an index below one more than the most.
+use mathlib.Core.Path.{_≡_, subst}
+use mathlib.Core.List.{[]}
+use Prim.Native.Nat.{ℕ, suc, _+_}
+use native.Mathlib.Omega.{arith}
+use borrow.Author.Needs.{needs}
+use Rattle.symbol_reader.proofs.numbers.read_count.Statement.{statement}
+use Rattle.symbol_reader.proofs.numbers.read_count.Tie as tie
+use Rattle.grammar.specs.Format.{symbol, number}
+use Rattle.symbol_reader.specs.Follows.{Always, Follows, below, Refuses}
+use Rattle.symbol_reader.specs.Leaves.{NoCell}
+
+least-requires : tie.Need-least-requires
+least-requires c κs = search needs
+
+add-bound : tie.Need-add-bound
+add-bound c = omega (arith, c .least .ensures)
+
+read-index-requires : tie.Need-read-index-requires
+read-index-requires c κs = search needs
+
+same-length : tie.Need-same-length
+same-length c = search needs
+
+returns : tie.Need-returns
+returns c =
+    let k = c .before .before .read-index in
+    let l = c .before .before .before .before .least in
+    let s = c .before .before .before .before .before .before .before .args in
+    let ix = k .last .1 .1 .1 .0 in (
+      λ vs rs small.
+          let e : l .result + 1 ≡ suc (s .most) = omega (arith, l .ensures, small) in
+          subst (λ (b : ℕ). Follows Always (λ n. symbol (number b [])) (below b) (s .text .now) (s .s) (s .index .now) vs rs ix vs rs (k .result)) e (k .ensures .0 vs rs (omega (arith, e, small))),
+      λ small.
+          let e : l .result + 1 ≡ suc (s .most) = omega (arith, l .ensures, small) in
+          subst (λ (b : ℕ). Refuses (NoCell (s .index .now)) (number b []) (s .text .now) (s .s) (ix ≡ s .index .now) (k .result)) e (k .ensures .1 (omega (arith, e, small))),
+    )
+
+pub read-count-spec : {M : Type 1} → statement M
+read-count-spec =
+    tie.close (tie.spec least-requires add-bound read-index-requires same-length returns)

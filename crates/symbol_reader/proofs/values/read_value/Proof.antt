@@ -1,0 +1,64 @@
+-- `symbol_reader::values::read_value` meets its contract: the token is read as a value, which is stored.
+use mathlib.Core.Path.{refl, ap, _∙_}
+use mathlib.Core.List.{[]}
+use borrow.Author.Needs.{needs}
+use Rattle.symbol_reader.proofs.values.read_value.Statement.{statement}
+use Rattle.symbol_reader.proofs.values.read_value.Tie as tie
+use Rattle.value.specs.Reading.{readValue}
+use Rattle.symbol_reader.specs.Leaves.{tokenAt}
+use Rattle.symbol_reader.proofs.Decoding.{value-means, value-kept}
+use Rattle.symbol_reader.proofs.TokenLaws.{tested, valued-follows, stored-refuses}
+
+due-requires : tie.Need-due-requires
+due-requires c κs = search needs
+
+part-requires : tie.Need-part-requires
+part-requires c κs = search needs
+
+read-value-requires : tie.Need-read-value-requires
+read-value-requires c κs = search needs
+
+value-in-requires : tie.Need-value-in-requires
+value-in-requires c κs = search needs
+
+passed-requires : tie.Need-passed-requires
+passed-requires c κs = search needs
+
+fraction-of-requires : tie.Need-fraction-of-requires
+fraction-of-requires c κs = search needs
+
+valued-requires : tie.Need-valued-requires
+valued-requires c κs = search needs
+
+same-length : tie.Need-same-length
+same-length c = search needs
+
+returns : tie.Need-returns
+returns c =
+    let v = c .before in
+    let f = v .before .before in
+    let p = f .before in
+    let m = p .before in
+    let r = m .before in
+    let d = r .before .before in
+    let a = r .read-value .result in
+    let t = tokenAt (d .before .before .args .text .now) (d .due .result) in
+    let read = r .read-value .ensures .by-definition ∙ ap readValue (r .before .part .ensures) in
+    let test = tested (d .due .ensures) (λ filled. value-means [] t a read (m .value-in .ensures)) (p .passed .ensures) in (
+      λ ix rs. valued-follows test (λ g. refl) (value-kept [] t a read (f .fraction-of .ensures)) (λ g i v. refl) (v .valued .ensures),
+      stored-refuses test (v .valued .ensures) (λ c found h. h) (λ e. e),
+    )
+
+pub read-value-spec : {M : Type 1} → statement M
+read-value-spec =
+    tie.close
+    (tie.spec
+    due-requires
+    part-requires
+    read-value-requires
+    value-in-requires
+    passed-requires
+    fraction-of-requires
+    valued-requires
+    same-length
+    returns)
