@@ -1,4 +1,3 @@
 -- Laws that the proofs of checking cite.
-pub mod HeaderLaws
 pub mod InOrder
 pub mod Verifying

@@ -1,6 +1,6 @@
 -- From reading to verifying: what a taken text leaves in the tables, and what the answer says of what is spelled.
 -- Assumes nothing.
-use mathlib.Core.Path.{_≡_, refl, sym, _∙_, ap}
+use mathlib.Core.Path.{_≡_, refl, sym, _∙_, ap, subst}
 use mathlib.Core.Bool.{Bool, true, false, cond, _&&_}
 use mathlib.Core.List.{List}
 use mathlib.Core.Logic.{_↔_}
@@ -11,22 +11,24 @@ use lib.Dec.{leb}
 use lib.IntN.{ℤ, pos}
 use lib.ListN.{length}
 use Rattle.text.specs.Bytes.{Bytes}
+use Rattle.tables.specs.declared.Header.{Header}
 use Rattle.tables.specs.Limits.{indexCells, valueCells, rowCells, hasCells, isShort}
 use Rattle.arithmetic.specs.Meaning.{and-true, true-and}
 use Rattle.grammar.specs.Tree.{Tree}
+use Rattle.grammar.specs.Header.{headerOf}
 use Rattle.grammar.specs.Tables.{indexTable, valueTable, rowTable}
 use Rattle.grammar.specs.Texts.{SpellsTree, ReadText, taken, refused, readOf, read-sound, read-complete}
 use Rattle.grammar.specs.declared.Refusal.{Refusal}
 use Rattle.rules.specs.Check.{checkOf}
 use Rattle.rules.specs.Meets.{Meets}
 use Rattle.rules.specs.Agreement.{check-says}
-use Rattle.reader.specs.Documents.{placesOf}
 use Rattle.reader.specs.Promise as reading
 use Rattle.reader.specs.Promise.{Course, not-begun, begun, courseOf, tableOf, Begun, CertificateRead}
-use Rattle.reader.specs.declared.Places.{Places}
 use Rattle.reader.specs.declared.Reading.{Reading}
 use Rattle.reader.specs.declared.Reading.the-variants as read
 use Rattle.encoding.specs.Held.{Held}
+use Rattle.encoding.specs.Encodes.{Encodes}
+use Rattle.encoding.specs.HeldLaws.{held-encodes}
 use Rattle.verdicts.specs.Verdicts.{verdictSays}
 use Rattle.verdicts.specs.declared.Verdict.{Verdict}
 use Rattle.checker.specs.Means.{not-verified, passes, verified-means}
@@ -36,7 +38,7 @@ use Rattle.checker.specs.declared.Verification.the-variants.{Verified, R
 
 -- ---- answers
 
-not-taken : {X : Type 0} {n l : ℕ} {p : Places} → reading.takes p ≡ reading.refuses n l → X
+not-taken : {X : Type 0} {n l : ℕ} {h : Header} → reading.takes h ≡ reading.refuses n l → X
 not-taken e = absurd (let z : _≡_ {A = ℕ} 0 1 = cc in omega arith)
 
 -- a refusal of reading is the refusal of verifying
@@ -47,15 +49,15 @@ refused-reading text (begun (refused reason place)) e = cc
 
 -- ---- what a taken text leaves
 
-pub record Taken (text : Bytes) (course : Course) (places : Places) : Type 0 where
+pub record Taken (text : Bytes) (course : Course) (header : Header) : Type 0 where
   pub tree : Tree
   pub course-is : course ≡ begun (taken tree)
-  pub places-are : places ≡ placesOf tree
+  pub header-is : header ≡ headerOf tree
 
-taken-answer : (text : Bytes) (course : Course) (places : Places) → reading.takes places ≡ reading.answerOf text course → Taken text course places
-taken-answer text (not-begun reason) places e = not-taken e
-taken-answer text (begun (taken tree)) places e = record { tree = tree; course-is = refl; places-are = cc }
-taken-answer text (begun (refused reason place)) places e = not-taken e
+taken-answer : (text : Bytes) (course : Course) (header : Header) → reading.takes header ≡ reading.answerOf text course → Taken text course header
+taken-answer text (not-begun reason) header e = not-taken e
+taken-answer text (begun (taken tree)) header e = record { tree = tree; course-is = refl; header-is = cc }
+taken-answer text (begun (refused reason place)) header e = not-taken e
 
 -- the course of a reading that was begun
 module _ (text : Bytes) (i v r : ℕ) where
@@ -82,25 +84,25 @@ module _ (text : Bytes) (index : List ℕ) (values : List ℤ) (rows : List ℕ)
   abbrev course : Course
   course = courseOf text (length index) (length values) (length rows)
 
-  pub record TakenHeld (places : Places) : Type 0 where
+  pub record TakenHeld (header : Header) : Type 0 where
     pub tree : Tree
     pub course-is : course ≡ begun (taken tree)
-    pub places-are : places ≡ placesOf tree
+    pub header-is : header ≡ headerOf tree
     pub held : Held tree index′ values′ rows′
 
-  pub taken-held : (places : Places) → reading.takes places ≡ reading.answerOf text course
+  pub taken-held : (header : Header) → reading.takes header ≡ reading.answerOf text course
       → index′ ≡ tableOf 0 indexTable index course → values′ ≡ tableOf (pos 0) valueTable values course → rows′ ≡ tableOf 0 rowTable rows course
       → length index′ ≡ length index → length values′ ≡ length values → length rows′ ≡ length rows
-      → TakenHeld places
-  taken-held places e ei ev er li lv lr =
-      let t = taken-answer text course places e in
+      → TakenHeld header
+  taken-held header e ei ev er li lv lr =
+      let t = taken-answer text course header e in
       let b = begun-course text (length index) (length values) (length rows) (taken (t .tree)) (t .course-is) in
       let c = and-true (leb indexCells (length index)) (leb valueCells (length values) && leb rowCells (length rows)) (b .has-cells) in
       let q = leb-true rowCells (length rows) (and-true (leb valueCells (length values)) (leb rowCells (length rows)) (c .1) .1) in
       record {
         tree = t .tree;
         course-is = t .course-is;
-        places-are = t .places-are;
+        header-is = t .header-is;
         held =
             record {
               text = text;
@@ -159,17 +161,17 @@ module _ {text : Bytes} {index : List ℕ} {values : List ℤ} {rows : List ℕ}
   refused-verified reason line e =
       promised (Refused reason line) (refused-reading text (courseOf text (length index) (length values) (length rows)) (sym (ap reading.readingSays e) ∙ h .equations .answer))
 
-  module _ (li : length index′ ≡ length index) (lv : length values′ ≡ length values) (lr : length rows′ ≡ length rows) (places : Places) (e : r ≡ read.Taken places) where
-    the-tree : TakenHeld text index values rows index′ values′ rows′ places
+  module _ (li : length index′ ≡ length index) (lv : length values′ ≡ length values) (lr : length rows′ ≡ length rows) (header : Header) (e : r ≡ read.Taken header) where
+    the-tree : TakenHeld text index values rows index′ values′ rows′ header
     the-tree =
         let q = h .equations in
-        taken-held text index values rows index′ values′ rows′ places (sym (ap reading.readingSays e) ∙ q .answer) (q .index-table) (q .value-table) (q .row-table) li lv lr
+        taken-held text index values rows index′ values′ rows′ header (sym (ap reading.readingSays e) ∙ q .answer) (q .index-table) (q .value-table) (q .row-table) li lv lr
 
-    -- the tables hold what was read, and it was checked
-    pub checked-verified : {v w : Verdict} (a : Verification) → ((tree : Tree) → Held tree index′ values′ rows′ → places ≡ placesOf tree → verdictSays v ≡ checkOf tree)
+    -- the tables encode what was read, under its header, and it was checked
+    pub checked-verified : {v w : Verdict} (a : Verification) → ((tree : Tree) → Encodes tree header index′ values′ rows′ → verdictSays v ≡ checkOf tree)
         → v ≡ w → verificationSays a ≡ checkedSays text (verdictSays w)
         → CertificateVerified text index values rows index′ values′ rows′ a
     checked-verified a check is says =
         let t = the-tree in
         promised a
-        (says ∙ ap (λ (x : Verdict). checkedSays text (verdictSays x)) (sym is) ∙ ap (checkedSays text) (check (t .tree) (t .held) (t .places-are)) ∙ sym (ap (answerOf text) (t .course-is)))
+        (says ∙ ap (λ (x : Verdict). checkedSays text (verdictSays x)) (sym is) ∙ ap (checkedSays text) (check (t .tree) (subst (λ (x : Header). Encodes (t .tree) x index′ values′ rows′) (sym (t .header-is)) (held-encodes (t .held)))) ∙ sym (ap (answerOf text) (t .course-is)))

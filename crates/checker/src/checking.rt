@@ -2,17 +2,12 @@
 ghost use mathlib.Core.Path.{_≡_};
 ghost use mathlib.Core.Bool.{cond};
 ghost use mathlib.Core.List.{List};
-ghost use Prim.Native.Nat.{ℕ};
-ghost use lib.IntN.{ℤ};
 ghost use Rattle.arithmetic.specs.Fraction.{IsFraction};
 ghost use Rattle.arithmetic.specs.declared.Fraction.{Fraction as Value};
 ghost use Rattle.grammar.specs.Tree.{finite, infinite, Tree};
-ghost use Rattle.grammar.specs.Header.{headerOf};
 ghost use Rattle.rules.specs.Result.{bind};
 ghost use Rattle.rules.specs.Solutions.{objectivesOf, bestOf, endToReach};
 ghost use Rattle.rules.specs.Check.{checkOf};
-ghost use Rattle.reader.specs.Documents.{placesOf};
-ghost use Rattle.encoding.specs.Held.{Held};
 ghost use Rattle.encoding.specs.Encodes.{Encodes};
 ghost use Rattle.verdicts.specs.Verdicts.{verdictSays};
 ghost use Rattle.solutions.specs.Objectives.{bestSays};
@@ -20,46 +15,12 @@ ghost use Rattle.checker.specs.Order.{proofOf, reachingOf};
 use arithmetic::Fraction;
 use encoding::claims::End;
 use grammar::Refusal;
-use reader::Places;
 use solutions::feasibility;
 use solutions::objectives;
 use solutions::objectives::Best;
 use solutions::objectives::Objectives;
 use tables::Header;
-use tables::Pairs;
-use tables::words;
 use verdicts::Verdict;
-
-// The header of a certificate, by the places that reading hands back.
-fn header_of(index: &[u16], places: Places) -> Header
-    ensures { λ h. ⌜ ((tree : Tree) (values : List ℤ) (rows : List ℕ) → Held tree (now (index .entry)) values rows → places ≡ placesOf tree → h ≡ headerOf tree) ⌝ }
-{
-    let variables = tables::cell_at(index, 0);
-    let integers = tables::cell_at(index, 1);
-    let direction = tables::cell_at(index, 2 + integers);
-    let count = tables::cell_at(index, 3 + integers);
-    let given = tables::cell_at(index, 4 + integers + count);
-    let solutions = tables::cell_at(index, places.solutions);
-    let derived = tables::cell_at(index, places.derivations);
-    let objective = Pairs {
-        cell: 4 + integers,
-        number: 0,
-        count: count,
-    };
-    Header {
-        variables: variables,
-        integers: integers,
-        maximize: direction == words::MAX,
-        objective: objective,
-        given: given,
-        rows: given + derived,
-        solutions: solutions,
-        claim: places.claim,
-        ends: places.ends,
-        relation: places.relation,
-        derivation: places.derivation,
-    }
-}
 
 // "Each derived row .. Claim, else 17", by the best objective.
 fn check_proof(index: &[u16], values: &[i32], rows: &[u16], header: Header, best: Best) -> Verdict
@@ -95,7 +56,7 @@ fn check_reaching(
 }
 
 // "For each solution in order .. After all solutions, their objectives .. else 10 .. Each derived row .. Claim, else 17".
-fn check_in_order(index: &[u16], values: &[i32], rows: &[u16], header: Header) -> Verdict
+pub(crate) fn check(index: &[u16], values: &[i32], rows: &[u16], header: Header) -> Verdict
     ensures { λ v. ⌜ ((tree : Tree) → Encodes tree header (now (index .entry)) (now (values .entry)) (now (rows .entry)) → verdictSays v ≡ checkOf tree) ⌝ }
 {
     let v = feasibility::check_solutions(index, values, rows, header);
@@ -109,10 +70,4 @@ fn check_in_order(index: &[u16], values: &[i32], rows: &[u16], header: Header) -
         }
         End::Finite(bound) => check_reaching(index, values, rows, header, true, bound),
     }
-}
-
-pub(crate) fn check(index: &[u16], values: &[i32], rows: &[u16], places: Places) -> Verdict
-    ensures { λ v. ⌜ ((tree : Tree) → Held tree (now (index .entry)) (now (values .entry)) (now (rows .entry)) → places ≡ placesOf tree → verdictSays v ≡ checkOf tree) ⌝ }
-{
-    check_in_order(index, values, rows, header_of(index, places))
 }

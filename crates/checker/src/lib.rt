@@ -20,8 +20,8 @@ pub fn verify(text: &[u8], index: &mut [u16], values: &mut [i32], rows: &mut [u1
 {
     match reader::read_certificate(text, index, values, rows) {
         Reading::Refused(reason, line) => Verification::Refused(reason, line),
-        Reading::Taken(places) => {
-            match checking::check(index, values, rows, places) {
+        Reading::Taken(header) => {
+            match checking::check(index, values, rows, header) {
                 Verdict::Fine => Verification::Verified,
                 Verdict::Refused(reason, place) => {
                     Verification::Refused(reason, text::line_of(text, place))

@@ -1,19 +1,23 @@
 -- The promise of Read a certificate: its equations in each course of a reading, and demand 3 from the equations.
 -- Assumes nothing.
 use mathlib.Core.Path.{_≡_, refl, sym, ap, _∙_, subst}
-use mathlib.Core.Bool.{false}
+use mathlib.Core.Bool.{Bool, true, false, _&&_}
 use mathlib.Core.List.{List}
-use Prim.Native.Nat.{ℕ, _-_, _≤_, _<_}
+use Prim.Native.Nat.{ℕ, _-_, _≤_}
 use native.Mathlib.Omega.{arith}
 use lib.IntN.{ℤ, pos}
 use lib.Seq.{sets}
 use lib.ListN.{length, replicate, length-append, length-replicate}
-use borrow.Author.Tests.{le-leb, lt-leb}
+use borrow.Author.Tests.{leb-true, le-leb}
+use lib.Dec.{leb}
 use Rattle.text.specs.Bytes.{Bytes}
+use Rattle.text.specs.BytesLaws.{clash}
 use Rattle.text.specs.Lines.{lineOf}
-use Rattle.tables.specs.Limits.{indexCells, valueCells, rowCells, hasCells, mostBytes}
+use Rattle.tables.specs.Limits.{indexCells, valueCells, rowCells, hasCells, isShort, mostBytes}
+use Rattle.tables.specs.declared.Header.{Header}
 use Rattle.grammar.specs.Tree.{Tree}
 use Rattle.grammar.specs.Certificate.{certificate}
+use Rattle.grammar.specs.Header.{headerOf}
 use Rattle.grammar.specs.Layout.{cells, marks}
 use Rattle.grammar.specs.Layout as L
 use Rattle.grammar.specs.Tables.{filled, byTurns, laid, indexTable, valueTable, rowTable}
@@ -25,15 +29,14 @@ use Rattle.grammar.specs.Rows.{RowAt, row-found}
 use Rattle.grammar.specs.Refusals.{refusalNumber}
 use Rattle.grammar.specs.declared.Refusal.{Refusal}
 use Rattle.grammar.specs.declared.Refusal.the-variants.{TableTooSmall, TextTooLong}
-use Rattle.reader.specs.Steps.{state}
-use Rattle.reader.specs.Documents.{start, placesOf, Written, AnswersToEnd, ReadsToEnd}
+use Rattle.symbol_reader.specs.Steps.{state}
+use Rattle.symbol_reader.specs.declared.Cursor.{Cursor}
+use Rattle.symbol_reader.specs.declared.Step.{Step}
+use Rattle.symbol_reader.specs.declared.Step.the-variants.{Next, Stop}
+use Rattle.reader.specs.Documents.{startOf, Written, AnswersToEnd, ReadsToEnd}
 use Rattle.reader.specs.Promise.{Course, not-begun, begun, courseOf, takes, refuses, readingSays, answerOf, tableOf, Holds, Equations, Begun, CertificateRead}
-use Rattle.reader.specs.declared.Cursor.{Cursor}
-use Rattle.reader.specs.declared.Places.{Places}
 use Rattle.reader.specs.declared.Reading.{Reading}
 use Rattle.reader.specs.declared.Reading.the-variants.{Taken, Refused}
-use Rattle.reader.specs.declared.documents.Document.{Document}
-use Rattle.reader.specs.declared.documents.Document.the-variants as document
 use Rattle.reader.proofs.Fill.{filled-cleared}
 
 no : {A : Type 0} → _≡_ {A = ℕ} 0 1 → A
@@ -57,46 +60,46 @@ module _ {text : Bytes} {index : List ℕ} {values : List ℤ} {rows : List ℕ}
         row-table = r ∙ ap (tableOf 0 rowTable rows) (sym e);
       }
 
-  small-table : hasCells (length index) (length values) (length rows) ≡ false → Equations text index values rows index values rows (Refused TableTooSmall 0)
+  pub small-table : hasCells (length index) (length values) (length rows) ≡ false → Equations text index values rows index values rows (Refused TableTooSmall 0)
   small-table e = by-course (not-begun 1) (rw e refl) refl refl refl refl
 
-  pub small-index : length index < indexCells → Equations text index values rows index values rows (Refused TableTooSmall 0)
-  small-index h = small-table (rw (lt-leb indexCells (length index) h) refl)
+  pub long-text : hasCells (length index) (length values) (length rows) ≡ true → isShort text ≡ false → Equations text index values rows index values rows (Refused TextTooLong 0)
+  long-text e f = by-course (not-begun 2) (rw (e, f) refl) refl refl refl refl
 
-  module _ (i : indexCells ≤ length index) where
-    pub small-values : length values < valueCells → Equations text index values rows index values rows (Refused TableTooSmall 0)
-    small-values h = small-table (rw (le-leb indexCells (length index) i, lt-leb valueCells (length values) h) refl)
+  -- the sizes that were tested
+  pub begun-by : hasCells (length index) (length values) (length rows) ≡ true → isShort text ≡ true → Begun text index values rows
+  begun-by e f =
+      let i = and-true (leb indexCells (length index)) e in
+      let v = and-true (leb valueCells (length values)) (i .1) in
+      record { index-cells = leb-true indexCells (length index) (i .0); value-cells = leb-true valueCells (length values) (v .0); row-cells = leb-true rowCells (length rows) (v .1); short = leb-true (length text) mostBytes f }
+    where
+      and-true : (b : Bool) {c : Bool} → b && c ≡ true → (b ≡ true) × (c ≡ true)
+      and-true true e = (refl, e)
+      and-true false e = (e, clash refl e)
 
-    module _ (v : valueCells ≤ length values) where
-      pub small-rows : length rows < rowCells → Equations text index values rows index values rows (Refused TableTooSmall 0)
-      small-rows h = small-table (rw (le-leb indexCells (length index) i, le-leb valueCells (length values) v, lt-leb rowCells (length rows) h) refl)
-
-      pub long-text : rowCells ≤ length rows → mostBytes < length text → Equations text index values rows index values rows (Refused TextTooLong 0)
-      long-text r h = by-course (not-begun 2) (rw (le-leb indexCells (length index) i, le-leb valueCells (length values) v, le-leb rowCells (length rows) r, lt-leb (length text) mostBytes h) refl) refl refl refl refl
-
-  pub begun-course : Begun text index values rows → courseOf text (length index) (length values) (length rows) ≡ begun (readOf text)
+  begun-course : Begun text index values rows → courseOf text (length index) (length values) (length rows) ≡ begun (readOf text)
   begun-course b = rw (le-leb _ _ (b .index-cells), le-leb _ _ (b .value-cells), le-leb _ _ (b .row-cells), le-leb _ _ (b .short)) refl
 
-  module _ (b : Begun text index values rows) {index₀ : List ℕ} {values₀ : List ℤ} {rows₀ : List ℕ} {index₁ : List ℕ} {values₁ : List ℤ} {rows₁ : List ℕ} {d : Document} (h : ReadsToEnd text (state (start text) index₀ values₀ rows₀) index₁ values₁ rows₁ d) where
+  module _ (b : Begun text index values rows) {index₀ : List ℕ} {values₀ : List ℤ} {rows₀ : List ℕ} {index₁ : List ℕ} {values₁ : List ℤ} {rows₁ : List ℕ} {header : Header} {s : Step} (h : ReadsToEnd text header (state (startOf text) index₀ values₀ rows₀) index₁ values₁ rows₁ s) where
     -- it was read to the end, into tables that were cleared
-    pub taken-equations : {places : Places} {c : Cursor} → d ≡ document.Read places c
+    pub taken-equations : {n : ℕ} {c : Cursor} → s ≡ Next n c
         → index₀ ≡ replicate (length index) 0 → values₀ ≡ replicate (length values) (pos 0) → rows₀ ≡ replicate (length rows) 0
-        → Equations text index values rows index₁ values₁ rows₁ (Taken places)
+        → Equations text index values rows index₁ values₁ rows₁ (Taken header)
     unfolding indexTable valueTable rowTable
-    taken-equations {places} {c} e i v r =
-        let w : Written text places (state (start text) index₀ values₀ rows₀) index₁ values₁ rows₁ = subst (λ (x : Document). AnswersToEnd text (state (start text) index₀ values₀ rows₀) index₁ values₁ rows₁ x) e (h .is) in
+    taken-equations e i v r =
+        let w : Written text header (state (startOf text) index₀ values₀ rows₀) index₁ values₁ rows₁ = subst (AnswersToEnd text header (state (startOf text) index₀ values₀ rows₀) index₁ values₁ rows₁) e (h .is) in
         let f = fits (read-sound text (w .tree) (w .reads)) (b .short) in
-        by-course (begun (taken (w .tree))) (begun-course b ∙ ap begun (w .reads)) (ap takes (w .places-are))
+        by-course (begun (taken (w .tree))) (begun-course b ∙ ap begun (w .reads)) (ap takes (w .header-is))
         (w .index-is ∙ (λ k. sets (i k) 0 (cells certificate (w .tree))) ∙ filled-cleared 0 (length index) (cells certificate (w .tree)) (omega (arith, f .index-inside, b .index-cells)))
         (w .values-is ∙ (λ k. sets (v k) 0 (byTurns (L.values certificate (w .tree)))) ∙ filled-cleared (pos 0) (length values) (byTurns (L.values certificate (w .tree))) (omega (arith, f .values-inside, b .value-cells)))
         (w .rows-is ∙ (λ k. laid (r k) (marks certificate (w .tree) 0 0)))
 
     -- it was refused, and the tables were cleared again
-    pub refused-equations : {q : Refusal} {p line : ℕ} → d ≡ document.Refused q p → line ≡ lineOf text p → {index′ : List ℕ} {values′ : List ℤ} {rows′ : List ℕ}
+    pub refused-equations : {q : Refusal} {p line : ℕ} → s ≡ Stop q p → line ≡ lineOf text p → {index′ : List ℕ} {values′ : List ℤ} {rows′ : List ℕ}
         → index′ ≡ replicate (length index) 0 → values′ ≡ replicate (length values) (pos 0) → rows′ ≡ replicate (length rows) 0
         → Equations text index values rows index′ values′ rows′ (Refused q line)
     refused-equations {q} {p} e l i v r =
-        let w : readOf text ≡ refused (refusalNumber q) p = subst (λ (x : Document). AnswersToEnd text (state (start text) index₀ values₀ rows₀) index₁ values₁ rows₁ x) e (h .is) in
+        let w : readOf text ≡ refused (refusalNumber q) p = subst (AnswersToEnd text header (state (startOf text) index₀ values₀ rows₀) index₁ values₁ rows₁) e (h .is) in
         by-course (begun (refused (refusalNumber q) p)) (begun-course b ∙ ap begun w) (ap (refuses (refusalNumber q)) l) i v r
 
 -- ---- demand 3
@@ -105,18 +108,18 @@ module _ {text : Bytes} {index : List ℕ} {values : List ℤ} {rows : List ℕ}
   answer-is : Begun text index values rows → readingSays r ≡ answerOf text (begun (readOf text))
   answer-is b = e .answer ∙ ap (answerOf text) (begun-course b)
 
-  read-tree : Begun text index values rows → (places : Places) × (r ≡ Taken places) → (tree : Tree) × (readOf text ≡ taken tree)
+  read-tree : Begun text index values rows → (header : Header) × (r ≡ Taken header) → (tree : Tree) × (readOf text ≡ taken tree)
   read-tree b t = go (readOf text) refl (sym (ap readingSays (t .1)) ∙ answer-is b)
     where
       go : (x : ReadText) → readOf text ≡ x → takes (t .0) ≡ answerOf text (begun x) → (tree : Tree) × (readOf text ≡ taken tree)
       go (taken tree) p q = (tree, p)
       go (refused k m) p q = no (cc)
 
-  tree-read : Begun text index values rows → (tree : Tree) × (readOf text ≡ taken tree) → (places : Places) × (r ≡ Taken places)
+  tree-read : Begun text index values rows → (tree : Tree) × (readOf text ≡ taken tree) → (header : Header) × (r ≡ Taken header)
   tree-read b t = go r refl (answer-is b ∙ ap (λ (x : ReadText). answerOf text (begun x)) (t .1))
     where
-      go : (x : Reading) → r ≡ x → readingSays x ≡ takes (placesOf (t .0)) → (places : Places) × (r ≡ Taken places)
-      go (Taken places) p q = (places, p)
+      go : (x : Reading) → r ≡ x → readingSays x ≡ takes (headerOf (t .0)) → (header : Header) × (r ≡ Taken header)
+      go (Taken header) p q = (header, p)
       go (Refused k m) p q = no (cc)
 
   module _ (b : Begun text index values rows) (tree : Tree) (s : SpellsTree text tree) where

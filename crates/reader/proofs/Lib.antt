@@ -1,15 +1,6 @@
--- Laws that the proofs of reading cite: runs of stores, the composition of readings, what tokens mean.
-mod Tables
-mod Laws
-mod Decoding
-mod Turns
-mod Listed
-mod Alternatives
-mod Choices
-mod NamesLaws
-mod Fingerprints
-mod Reasons
-mod SectionLaws
+-- Laws that the proofs of reading a document cite.
 mod Fill
+mod ProofLaws
+mod DocumentLaws
 mod Whole
 mod Demand

@@ -1,6 +1,3 @@
--- What reading promises, in reading order: the promise, and what its parts promise.
-pub mod Steps
-pub mod Leaves
-pub mod Parts
+-- What reading promises: the promise, and what reading a document promises.
 pub mod Documents
 pub mod Promise

@@ -12,9 +12,11 @@ use lib.ListN.{length, replicate}
 use Rattle.text.specs.Bytes.{Bytes}
 use Rattle.text.specs.Lines.{lineOf}
 use Rattle.text.specs.Tokens.{Token}
+use Rattle.tables.specs.declared.Header.{Header}
 use Rattle.tables.specs.Limits.{mostBytes, isShort, indexCells, valueCells, rowCells, hasCells}
 use Rattle.grammar.specs.Tree.{Tree}
 use Rattle.grammar.specs.Certificate.{certificate}
+use Rattle.grammar.specs.Header.{headerOf}
 use Rattle.grammar.specs.Layout.{Mark, marks}
 use Rattle.grammar.specs.Tables.{filled, byTurns, indexTable, valueTable, rowTable}
 use Rattle.grammar.specs.Texts.{SpellsTree, Certificate, certificateOf, SpellsCertificate, ReadText, taken, refused, readOf}
@@ -22,8 +24,6 @@ use Rattle.grammar.specs.Names.{Each, StandsIn}
 use Rattle.grammar.specs.AllNames.{markNames}
 use Rattle.grammar.specs.Rows.{RowAt}
 use Rattle.grammar.specs.Refusals.{refusalNumber}
-use Rattle.reader.specs.Documents.{placesOf}
-use Rattle.reader.specs.declared.Places.{Places}
 use Rattle.reader.specs.declared.Reading.{Reading}
 use Rattle.reader.specs.declared.Reading.the-variants.{Taken, Refused}
 
@@ -40,20 +40,20 @@ courseOf text index values rows =
 
 -- ---- the answer
 
--- a certificate was taken, whose sections stand there; or 01's number of the reason, and the line
+-- a certificate was taken, with this header; or 01's number of the reason, and the line
 pub data Answer : Type 0 where
-  takes : Places → Answer
+  takes : Header → Answer
   refuses : (reason line : ℕ) → Answer
 
 -- for each case of the enum, what 01 calls it
 abbrev pub readingSays : Reading → Answer
-readingSays (Taken places) = takes places
+readingSays (Taken header) = takes header
 readingSays (Refused reason line) = refuses (refusalNumber reason) line
 
 -- the column "line" of 01's table: 0 for 1 and 2, else the line of the token, or of the end
 abbrev pub answerOf : Bytes → Course → Answer
 answerOf text (not-begun reason) = refuses reason 0
-answerOf text (begun (taken tree)) = takes (placesOf tree)
+answerOf text (begun (taken tree)) = takes (headerOf tree)
 answerOf text (begun (refused reason place)) = refuses reason (lineOf text place)
 
 -- ---- the tables
@@ -95,7 +95,7 @@ pub record Begun (text : Bytes) (index : List ℕ) (values : List ℤ) (rows : L
 pub record CertificateRead (text : Bytes) (index : List ℕ) (values : List ℤ) (rows : List ℕ) (index′ : List ℕ) (values′ : List ℤ) (rows′ : List ℕ) (r : Reading) : Type 0 where
   pub equations : Equations text index values rows index′ values′ rows′ r
   -- "it is taken exactly when 01's grammar .. says that it spells a certificate"
-  pub taken-exactly : Begun text index values rows → ((places : Places) × (r ≡ Taken places)) ↔ ((c : Certificate) × SpellsCertificate text c)
+  pub taken-exactly : Begun text index values rows → ((header : Header) × (r ≡ Taken header)) ↔ ((c : Certificate) × SpellsCertificate text c)
   -- "no text spells two"
   pub spelled-once : (c d : Certificate) → SpellsCertificate text c → SpellsCertificate text d → c ≡ d
   -- "the tables then hold the one it spells"

@@ -2,8 +2,9 @@
 // answers; of 01's example also the tables. Then tables and a text of other sizes.
 ghost use Prim.Native.Nat.{_≤_};
 ghost use lib.ListN.{length};
-use reader::Places;
 use reader::Reading;
+use tables::Header;
+use tables::Pairs;
 
 fn put(bytes: &[u8]) {
     io::write_all(1, bytes);
@@ -50,19 +51,35 @@ fn rest(table: &[u16], from: usize) {
     }
 }
 
-fn taken(p: Places) {
-    put(b": taken, RTP at ");
-    number(p.relation);
-    put(b", DER at ");
-    number(p.derivation);
-    put(b", claim ");
-    number(p.claim);
-    put(b" ");
-    number(p.ends);
-    put(b", solutions ");
-    number(p.solutions);
-    put(b", derivations ");
-    number(p.derivations);
+fn field(name: &[u8], n: usize) {
+    put(name);
+    number(n);
+}
+
+// The objective: whether it is maximized, and where its terms stand.
+fn objective(maximize: bool, terms: Pairs) {
+    if maximize {
+        put(b", max");
+    } else {
+        put(b", min");
+    }
+    field(b" ", terms.cell);
+    field(b" ", terms.number);
+    field(b" ", terms.count);
+}
+
+fn taken(h: Header) {
+    field(b": taken, variables ", h.variables);
+    field(b", integers ", h.integers);
+    let terms = h.objective;
+    objective(h.maximize, terms);
+    field(b", given ", h.given);
+    field(b", rows ", h.rows);
+    field(b", solutions ", h.solutions);
+    field(b", claim ", h.claim);
+    field(b" ", h.ends);
+    field(b", RTP at ", h.relation);
+    field(b", DER at ", h.derivation);
     put(b"\n");
 }
 
@@ -76,7 +93,7 @@ fn refused(reason: usize, line: usize) {
 
 fn answer(r: Reading) {
     match r {
-        Reading::Taken(p) => taken(p),
+        Reading::Taken(h) => taken(h),
         Reading::Refused(reason, line) => refused(grammar::number(reason) as usize, line),
     }
 }

@@ -12,11 +12,11 @@ use Rattle.grammar.specs.Certificate.{countTo, section}
 use Rattle.grammar.specs.Layout.{cells, values}
 use Rattle.grammar.specs.declared.Refusal.{Refusal}
 use Rattle.symbol_reader.specs.Steps.{State, state, Room, Went, Answers, Reads, any}
-use Rattle.symbol_reader.specs.Follows.{Always, AtMost, Answering, Follows, below, carried}
+use Rattle.symbol_reader.specs.Follows.{Always, Answering, Follows, below, carried}
 use Rattle.symbol_reader.specs.declared.Cursor.{Cursor}
 use Rattle.symbol_reader.specs.declared.Step.{Step}
 use Rattle.symbol_reader.specs.declared.Step.the-variants.{Next, Stop}
-use Rattle.section_reader.specs.Sections.{numberOf, cellsOf, valuesOf}
+use Rattle.section_reader.specs.Sections.{numberOf, cellsOf, valuesOf, AtMost}
 use Rattle.symbol_reader.proofs.Laws.{reads-on, then-stop, then-reads}
 use Rattle.symbol_reader.proofs.FollowsLaws.{follows-by, Leads, leads-always, then-follows, carry-follows, view-follows}
 

@@ -30,9 +30,12 @@ abbrev pub valuesOf : Step → ℕ
 valuesOf (Next n c) = c .values
 valuesOf (Stop q p) = 0
 
--- what must hold at the start of a part beside the room: two values have room, for the ends of a range; or P
+-- what must hold at the start of a part beside the room: two values have room, for the ends of a range; the number is at most this; or P
 abbrev pub ForEnds : ℕ → State → Type 0
 ForEnds n s = 4 * s .cursor .values + 4 ≤ s .cursor .at
+
+abbrev pub AtMost : ℕ → ℕ → State → Type 0
+AtMost most n s = n ≤ most
 
 abbrev pub Where : Type 0 → ℕ → State → Type 0
 Where P n s = P

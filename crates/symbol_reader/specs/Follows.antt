@@ -19,16 +19,12 @@ use Rattle.symbol_reader.specs.declared.Step.the-variants.{Next, Stop}
 
 -- ---- with room
 
--- what must hold of the number and of the state at the start beside the room: nothing, that a value has room, or that the
--- number is at most this
+-- what must hold of the number and of the state at the start beside the room: nothing, or that a value has room
 abbrev pub Always : ℕ → State → Type 0
 Always n s = Unit {0}
 
 abbrev pub ForValue : ℕ → State → Type 0
 ForValue n s = 4 * s .cursor .values + 2 ≤ s .cursor .at
-
-abbrev pub AtMost : ℕ → ℕ → State → Type 0
-AtMost most n s = n ≤ most
 
 -- by cases on the answer that it reads on from
 abbrev pub Answering : {A : Type 0} → (ℕ → State → Type 0) → (ℕ → Format A) → (A → ℕ → Type 0) → Bytes → Step → List ℕ → List ℤ → List ℕ → List ℕ → List ℤ → List ℕ → Step → Type 0

@@ -17,7 +17,7 @@ use Rattle.rules.specs.Result as rules
 use Rattle.rules.specs.Check.{checkOf}
 use Rattle.reader.specs.Promise as reading
 use Rattle.reader.specs.Promise.{Course, begun, courseOf, CertificateRead}
-use Rattle.reader.specs.declared.Places.{Places}
+use Rattle.tables.specs.declared.Header.{Header}
 use Rattle.reader.specs.declared.Reading.{Reading}
 use Rattle.reader.specs.declared.Reading.the-variants as read
 use Rattle.checker.specs.Promise as checking
@@ -64,8 +64,8 @@ readReplied r = readReply (reading.readingSays r)
 abbrev readCourse : Bytes → Course → Reply
 readCourse text c = readReply (reading.answerOf text c)
 
-taken-zero : (r : Reading) → (readReplied r .status ≡ 0) ↔ ((places : Places) × (r ≡ read.Taken places))
-taken-zero (read.Taken places) = (λ z. (places, refl), λ p. refl)
+taken-zero : (r : Reading) → (readReplied r .status ≡ 0) ↔ ((header : Header) × (r ≡ read.Taken header))
+taken-zero (read.Taken header) = (λ z. (header, refl), λ p. refl)
 taken-zero (read.Refused reason line) =
     (λ z. not-zero reason z, λ p. let t : read.Refused reason line ≡ read.Taken (p .0) = p .1 in absurd (let z : _≡_ {A = ℕ} 0 1 = cc in omega arith))
 

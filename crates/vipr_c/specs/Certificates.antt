@@ -28,7 +28,7 @@ reply status line = record { status = status; line = line }
 
 -- 0 and line 0 where the certificate was taken
 abbrev pub readReply : reading.Answer → Reply
-readReply (reading.takes places) = reply 0 0
+readReply (reading.takes header) = reply 0 0
 readReply (reading.refuses reason line) = reply reason line
 
 -- 0 and line 0 where it is verified

@@ -13,8 +13,8 @@ read-certificate-requires c κs = search needs
 enum-known-reason : tie.Need-enum-known-reason
 enum-known-reason c = search needs
 
-enum-known-places : tie.Need-enum-known-places
-enum-known-places c = search needs
+enum-known-header : tie.Need-enum-known-header
+enum-known-header c = search needs
 
 check-requires : tie.Need-check-requires
 check-requires c κs = search needs
@@ -52,7 +52,7 @@ same-length-6 c = search needs
 returns-2 : tie.Need-returns-2
 returns-2 c =
     let w = c .before .before .before .before .before .before .before .before .before .before .before .before .before .before .read-certificate in
-    checked-verified (w .ensures) (w .kept .1 .0) (w .kept .1 .1 .0) (w .kept .1 .1 .1 .0) _ (c .before .before .before .before .before .before .before .places .given .1)
+    checked-verified (w .ensures) (w .kept .1 .0) (w .kept .1 .1 .0) (w .kept .1 .1 .1 .0) _ (c .before .before .before .before .before .before .before .header .given .1)
     _ (c .before .before .check .ensures) (c .enum-told .given .1) refl
 
 same-length-7 : tie.Need-same-length-7
@@ -67,7 +67,7 @@ same-length-9 c = search needs
 returns-3 : tie.Need-returns-3
 returns-3 c =
     let w = c .before .before .before .before .before .before .before .before .before .before .before .before .before .before .before .before .read-certificate in
-    checked-verified (w .ensures) (w .kept .1 .0) (w .kept .1 .1 .0) (w .kept .1 .1 .1 .0) _ (c .before .before .before .before .before .before .before .before .before .places .given .1)
+    checked-verified (w .ensures) (w .kept .1 .0) (w .kept .1 .1 .0) (w .kept .1 .1 .1 .0) _ (c .before .before .before .before .before .before .before .before .before .header .given .1)
     _ (c .before .before .before .before .check .ensures) (c .before .before .reason2 .given .1) (ap (refuses (refusalNumber (c .before .before .reason2 .given .0 .0))) (c .line-of .ensures))
 
 pub verify-spec : {M : Type 1} → statement M
@@ -76,7 +76,7 @@ verify-spec =
     (tie.spec
     read-certificate-requires
     enum-known-reason
-    enum-known-places
+    enum-known-header
     check-requires
     enum-told
     enum-known-reason-2

@@ -1,47 +1,48 @@
--- `reader::read_certificate` meets its contract: a table is too small, or the text too long, or the text is read into cleared
--- tables, which are cleared again where it is refused.
-use mathlib.Core.Path.{_∙_, ap}
+-- `reader::read_certificate` meets its contract: a table is too small, or the text too long, or the text is read into cleared tables,
+-- which are cleared again where it is refused.
+use mathlib.Core.Path.{sym, _∙_, ap}
 use Prim.Native.Nat.{ℕ}
+use native.Mathlib.Omega.{arith}
+use borrow.Author.Needs.{needs}
 use lib.IntN.{pos}
 use lib.ListN.{replicate}
-use Rattle.reader.specs.Promise.{Begun}
-use Rattle.reader.proofs.Demand.{small-index, small-values, small-rows, long-text, taken-equations, refused-equations, promised}
-use borrow.Author.Needs.{needs}
 use Rattle.reader.proofs.read_certificate.Statement.{statement}
 use Rattle.reader.proofs.read_certificate.Tie as tie
+use Rattle.symbol_reader.specs.Steps.{state}
+use Rattle.symbol_reader.proofs.Laws.{not-true, not-false}
+use Rattle.reader.specs.Promise.{Begun}
+use Rattle.reader.specs.Documents.{startOf, ReadsToEnd}
+use Rattle.reader.proofs.Whole.{start-room, reads-to-end}
+use Rattle.reader.proofs.Demand.{small-table, long-text, begun-by, taken-equations, refused-equations, promised}
 
-begun : (c : tie.Else4) → Begun (c .before .before .before .before .before .before .before .args .text .now) (c .before .before .before .before .before .before .before .args .index .now) (c .before .before .before .before .before .before .before .args .values .now) (c .before .before .before .before .before .before .before .args .rows .now)
-begun c = record { index-cells = c .before .before .before .if1 .left; value-cells = c .before .before .if2 .left; row-cells = c .before .if3 .left; short = c .if4 .left }
+-- the places on the way, from where the end was read
+abbrev cleared : tie.After-read-end → tie.After-clear
+cleared c = c .before .before .before .before .before .before .before .before .before .before .before .before .before .before .before .before
 
-returns : tie.Need-returns
-returns c = promised (small-index (c .if1 .taken))
+abbrev tested : tie.After-clear → tie.Else2
+tested k = k .before .before .before .before
 
-returns-2 : tie.Need-returns-2
-returns-2 c = promised (small-values (c .before .if1 .left) (c .if2 .taken))
+abbrev start : tie.After-clear → tie.Start
+start k = tested k .before .before .before .before .before .before .before .before .before .before
 
-returns-3 : tie.Need-returns-3
-returns-3 c = promised (small-rows (c .before .before .if1 .left) (c .before .if2 .left) (c .if3 .taken))
+begun : (k : tie.After-clear) → Begun (start k .args .text .now) (start k .args .index .now) (start k .args .values .now) (start k .args .rows .now)
+begun k =
+    let s = tested k in
+    let i = s .before .before in
+    begun-by (sym (i .before .has-cells .ensures) ∙ not-false _ (i .if1 .left)) (sym (s .before .is-short .ensures) ∙ not-false _ (s .if2 .left))
 
-returns-4 : tie.Need-returns-4
-returns-4 c = promised (long-text (c .before .before .before .if1 .left) (c .before .before .if2 .left) (c .before .if3 .left) (c .if4 .taken))
+-- the text was read to its end, into cleared tables
+ended : (c : tie.After-read-end) → let d = c .before .before .before .before .before .before .before in let k = cleared c .clear .last in
+    ReadsToEnd (start (cleared c) .args .text .now) (d .read-document .result .header) (state (startOf (start (cleared c) .args .text .now)) (k .0) (k .1 .0) (k .1 .1 .0)) (d .read-document .last .1 .0) (d .read-document .last .1 .1 .0) (d .read-document .last .1 .1 .1 .0) (c .read-end .result)
+ended c =
+    let d = c .before .before .before .before .before .before .before in
+    let k = cleared c in
+    let b = begun k in
+    let l = k .clear .kept in
+    reads-to-end (d .read-document .ensures (start-room (b .short) (omega (arith, b .index-cells, l .0)) (omega (arith, b .value-cells, l .1 .0)) (omega (arith, b .row-cells, l .1 .1 .0)))) (c .read-end .ensures)
 
-clear-requires : tie.Need-clear-requires
-clear-requires c κs = search needs
-
-read-to-end-requires : tie.Need-read-to-end-requires
-read-to-end-requires c κs = search needs
-
-enum-known-places : tie.Need-enum-known-places
-enum-known-places c = search needs
-
-enum-known-reason : tie.Need-enum-known-reason
-enum-known-reason c = search needs
-
-clear-requires-2 : tie.Need-clear-requires-2
-clear-requires-2 c κs = search needs
-
-line-of-requires : tie.Need-line-of-requires
-line-of-requires c κs = search needs
+has-cells-requires : tie.Need-has-cells-requires
+has-cells-requires c κs = search needs
 
 same-length : tie.Need-same-length
 same-length c = search needs
@@ -52,10 +53,11 @@ same-length-2 c = search needs
 same-length-3 : tie.Need-same-length-3
 same-length-3 c = search needs
 
-returns-5 : tie.Need-returns-5
-returns-5 c =
-    let h = c .before .before .before .before .before .before .before .before .before .before .before .before .before .before .before .before .before .clear .ensures in
-    promised (taken-equations (begun (c .before .before .before .before .before .before .before .before .before .before .before .before .before .before .before .before .before .before .before .before .before)) (c .before .before .before .before .before .before .before .before .read-to-end .ensures) (c .before .places .given .1) (h .0) (h .1) (h .2))
+returns : tie.Need-returns
+returns c = promised (small-table (sym (c .before .has-cells .ensures) ∙ not-true _ (c .if1 .taken)))
+
+is-short-requires : tie.Need-is-short-requires
+is-short-requires c κs = search needs
 
 same-length-4 : tie.Need-same-length-4
 same-length-4 c = search needs
@@ -66,32 +68,94 @@ same-length-5 c = search needs
 same-length-6 : tie.Need-same-length-6
 same-length-6 c = search needs
 
-returns-6 : tie.Need-returns-6
-returns-6 c =
-    promised (refused-equations (begun (c .before .before .before .before .before .before .before .before .before .before .before .before .before .before .before .before .before .before .before .before .before .before .before .before .before .before .before .before .before .before .before)) (c .before .before .before .before .before .before .before .before .before .before .before .before .before .before .before .before .before .before .read-to-end .ensures) (c .before .before .before .before .before .before .before .before .before .before .before .reason .given .1) (c .line-of .ensures)
-    (c .before .before .before .before .before .before .clear2 .ensures .0 ∙ ap (λ (n : ℕ). replicate n 0) (c .before .before .before .before .before .before .before .before .before .before .before .before .before .before .before .before .before .before .read-to-end .kept .1 .0 ∙ c .before .before .before .before .before .before .before .before .before .before .before .before .before .before .before .before .before .before .before .before .before .before .before .before .before .before .before .clear .kept .0))
-    (c .before .before .before .before .before .before .clear2 .ensures .1 ∙ ap (λ (n : ℕ). replicate n (pos 0)) (c .before .before .before .before .before .before .before .before .before .before .before .before .before .before .before .before .before .before .read-to-end .kept .1 .1 .0 ∙ c .before .before .before .before .before .before .before .before .before .before .before .before .before .before .before .before .before .before .before .before .before .before .before .before .before .before .before .clear .kept .1 .0))
-    (c .before .before .before .before .before .before .clear2 .ensures .2 ∙ ap (λ (n : ℕ). replicate n 0) (c .before .before .before .before .before .before .before .before .before .before .before .before .before .before .before .before .before .before .read-to-end .kept .1 .1 .1 .0 ∙ c .before .before .before .before .before .before .before .before .before .before .before .before .before .before .before .before .before .before .before .before .before .before .before .before .before .before .before .clear .kept .1 .1 .0)))
+returns-2 : tie.Need-returns-2
+returns-2 c =
+    let i = c .before .before in
+    promised (long-text (sym (i .before .has-cells .ensures) ∙ not-false _ (i .if1 .left)) (sym (c .before .is-short .ensures) ∙ not-true _ (c .if2 .taken)))
+
+clear-requires : tie.Need-clear-requires
+clear-requires c κs = search needs
+
+read-document-requires : tie.Need-read-document-requires
+read-document-requires c κs = search needs
+
+read-end-requires : tie.Need-read-end-requires
+read-end-requires c κs = search needs
+
+enum-known-s : tie.Need-enum-known-s
+enum-known-s c = search needs
+
+enum-told : tie.Need-enum-told
+enum-told c = search needs
+
+same-length-7 : tie.Need-same-length-7
+same-length-7 c = search needs
+
+same-length-8 : tie.Need-same-length-8
+same-length-8 c = search needs
+
+same-length-9 : tie.Need-same-length-9
+same-length-9 c = search needs
+
+returns-3 : tie.Need-returns-3
+returns-3 c =
+    let r = c .before .before in
+    let h = cleared (r) .clear .ensures in
+    promised (taken-equations (begun (cleared (r))) (ended r) (c .enum-told .given .1) (h .0) (h .1 .0) (h .1 .1))
+
+clear-requires-2 : tie.Need-clear-requires-2
+clear-requires-2 c κs = search needs
+
+line-of-requires : tie.Need-line-of-requires
+line-of-requires c κs = search needs
+
+same-length-10 : tie.Need-same-length-10
+same-length-10 c = search needs
+
+same-length-11 : tie.Need-same-length-11
+same-length-11 c = search needs
+
+same-length-12 : tie.Need-same-length-12
+same-length-12 c = search needs
+
+returns-4 : tie.Need-returns-4
+returns-4 c =
+    let r = c .before .before .before .before .before .before .before .before .before .before .before .before .before in
+    let d = r .before .before .before .before .before .before .before in
+    let k = cleared r in
+    let e = c .before .before .before .before .before .before .clear2 .ensures in
+    promised
+    (refused-equations (begun k) (ended r) (c .before .before .before .before .before .before .before .before .before .before .before .s .given .1) (c .line-of .ensures)
+    (e .0 ∙ ap (λ (n : ℕ). replicate n 0) (d .read-document .kept .1 .0 ∙ k .clear .kept .0))
+    (e .1 .0 ∙ ap (λ (n : ℕ). replicate n (pos 0)) (d .read-document .kept .1 .1 .0 ∙ k .clear .kept .1 .0))
+    (e .1 .1 ∙ ap (λ (n : ℕ). replicate n 0) (d .read-document .kept .1 .1 .1 .0 ∙ k .clear .kept .1 .1 .0)))
 
 pub read-certificate-spec : {M : Type 1} → statement M
 read-certificate-spec =
     tie.close
     (tie.spec
-    returns
-    returns-2
-    returns-3
-    returns-4
-    clear-requires
-    read-to-end-requires
-    enum-known-places
-    enum-known-reason
-    clear-requires-2
-    line-of-requires
+    has-cells-requires
     same-length
     same-length-2
     same-length-3
-    returns-5
+    returns
+    is-short-requires
     same-length-4
     same-length-5
     same-length-6
-    returns-6)
+    returns-2
+    clear-requires
+    read-document-requires
+    read-end-requires
+    enum-known-s
+    enum-told
+    same-length-7
+    same-length-8
+    same-length-9
+    returns-3
+    clear-requires-2
+    line-of-requires
+    same-length-10
+    same-length-11
+    same-length-12
+    returns-4)

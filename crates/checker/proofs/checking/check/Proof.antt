@@ -1,17 +1,66 @@
--- `checker::checking::check` meets its contract: the tables encode what was read, under its header.
-use Rattle.checker.proofs.HeaderLaws.{encoded}
+-- `checker::checking::check` meets its contract: the first refusal of the parts, in document 01's order, is the refusal of
+-- the whole.
+use mathlib.Core.Path.{sym, _∙_, ap, subst}
+use Rattle.grammar.specs.Tree.{End}
+use Rattle.rules.specs.Sentence.Formed.{EndFormed}
+use Rattle.arithmetic.specs.Laws.{zero-is}
+use Rattle.encoding.specs.Claims.{endSays}
+use Rattle.checker.proofs.InOrder.{solutions-refused, after-solutions}
 use borrow.Author.Needs.{needs}
 use Rattle.checker.proofs.checking.check.Statement.{statement}
 use Rattle.checker.proofs.checking.check.Tie as tie
 
-header-of-requires : tie.Need-header-of-requires
-header-of-requires c κs = search needs
+check-solutions-requires : tie.Need-check-solutions-requires
+check-solutions-requires c κs = search needs
 
-check-in-order-requires : tie.Need-check-in-order-requires
-check-in-order-requires c κs = search needs
+enum-told : tie.Need-enum-told
+enum-told c = search needs
+
+enum-told-2 : tie.Need-enum-told-2
+enum-told-2 c = search needs
 
 returns : tie.Need-returns
-returns c = λ tree h e. c .check-in-order .ensures tree (encoded h (c .before .header-of .ensures tree _ _ h e))
+returns c = λ tree h. solutions-refused tree (c .enum-told2 .given .1) (c .before .before .check-solutions .ensures tree h)
+
+end-to-reach-requires : tie.Need-end-to-reach-requires
+end-to-reach-requires c κs = search needs
+
+enum-told-3 : tie.Need-enum-told-3
+enum-told-3 c = search needs
+
+check-reaching-requires : tie.Need-check-reaching-requires
+check-reaching-requires c κs = search needs
+
+enum-known-bound : tie.Need-enum-known-bound
+enum-known-bound c = search needs
+
+check-reaching-requires-2 : tie.Need-check-reaching-requires-2
+check-reaching-requires-2 c κs = search needs
+
+returns-2 : tie.Need-returns-2
+returns-2 c = λ tree h.
+    after-solutions tree (c .before .before .before .before .enum-told .given .1) (c .before .before .before .before .before .before .check-solutions .ensures tree h)
+    (c .check-reaching .ensures tree h zero-is (sym (ap endSays (c .before .enum-told3 .given .1)) ∙ c .before .before .before .end-to-reach .ensures .0 tree _ h))
+
+returns-3 : tie.Need-returns-3
+returns-3 c = λ tree h.
+    let e = c .before .before .before .before .end-to-reach in
+    let is = ap endSays (c .before .before .bound .given .1) in
+    after-solutions tree (c .before .before .before .before .before .enum-told .given .1) (c .before .before .before .before .before .before .before .check-solutions .ensures tree h)
+    (c .check-reaching2 .ensures tree h (subst (λ (x : End). EndFormed x) is (e .ensures .1 tree _ h)) (sym is ∙ e .ensures .0 tree _ h))
 
 pub check-spec : {M : Type 1} → statement M
-check-spec = tie.close (tie.spec header-of-requires check-in-order-requires returns)
+check-spec =
+    tie.close
+    (tie.spec
+    check-solutions-requires
+    enum-told
+    enum-told-2
+    returns
+    end-to-reach-requires
+    enum-told-3
+    check-reaching-requires
+    enum-known-bound
+    check-reaching-requires-2
+    returns-2
+    returns-3)
