@@ -24,9 +24,6 @@ returns c = λ u v w.
     let s = c .before .before .before in
     sym (zero-added (s .args .s) (s .args .a) (s .args .b) u v w (zero-read (s .args .b .num) (told-b s .0) (c .if1 .taken)))
 
-add-product-whole-requires : tie.Need-add-product-whole-requires
-add-product-whole-requires c κs = search needs
-
 returns-2 : tie.Need-returns-2
 returns-2 c = λ u v w.
     let four = c .before .before .before .before in
@@ -41,11 +38,8 @@ returns-2 c = λ u v w.
     (whole _ v (ap natAbs (one-read (s .args .a .den) (told-a s .1) (three .if3 .taken))))
     (whole _ w (ap natAbs (one-read (s .args .b .den) (told-b s .1) (four .if4 .taken))))
 
-add-product-any-requires : tie.Need-add-product-any-requires
-add-product-any-requires c κs = search needs
-
 returns-3 : tie.Need-returns-3
 returns-3 c = c .add-product-any .ensures
 
 pub add-product-spec : {M : Type 1} → statement M
-add-product-spec = tie.close (tie.spec returns add-product-whole-requires returns-2 add-product-any-requires returns-3)
+add-product-spec = tie.close (tie.spec returns (search needs) returns-2 (search needs) returns-3)

@@ -9,20 +9,11 @@ use Rattle.arithmetic.specs.Laws.{product-is}
 use Rattle.arithmetic.specs.declared.Fraction.{Fraction}
 use Rattle.arithmetic.proofs.Ways.{stays}
 
-product-requires : tie.Need-product-requires
-product-requires c κs = search needs
-
-enum-known-p : tie.Need-enum-known-p
-enum-known-p c = search needs
-
 returns : tie.Need-returns
 returns c = λ u v w.
     let s = c .before .before in
     stays (c .before .product .result) (sumOf (s .args .s)) (c .match .keys2)
     ∙ ap (λ (o : Outcome Fraction). after o (sumOf (s .args .s))) (c .before .product .ensures v w)
-
-sum-requires : tie.Need-sum-requires
-sum-requires c κs = search needs
 
 returns-2 : tie.Need-returns-2
 returns-2 c = λ u v w.
@@ -32,4 +23,4 @@ returns-2 c = λ u v w.
     c .sum .ensures u (product-is (s .args .a) (s .args .b) _ gave) ∙ sym (ap (λ (o : Outcome Fraction). after o (sumOf (s .args .s))) gave)
 
 pub add-product-any-spec : {M : Type 1} → statement M
-add-product-any-spec = tie.close (tie.spec product-requires enum-known-p returns sum-requires returns-2)
+add-product-any-spec = tie.close (tie.spec (search needs) (search needs) returns (search needs) returns-2)

@@ -32,12 +32,6 @@ sum-of k =
     let m = k .before .before .before in
     back64-of (x .result) (x .ok) ∙ x .ensures ∙ (rw (back (m .before .fits .s), product-of m))
 
-whole-product-requires : tie.Need-whole-product-requires
-whole-product-requires c κs = search needs
-
-magnitude-wide-requires : tie.Need-magnitude-wide-requires
-magnitude-wide-requires c κs = search needs
-
 returns : tie.Need-returns
 returns c =
     let s = c .before .before .before in
@@ -46,12 +40,6 @@ returns c =
 
 whole-sum-requires : tie.Need-whole-sum-requires
 whole-sum-requires c κs = rw (product-of (c .before .before)) (omega (arith, magnitude-of (c .before), c .if1 .left))
-
-magnitude-wide-requires-2 : tie.Need-magnitude-wide-requires-2
-magnitude-wide-requires-2 c κs = search needs
-
-within-requires : tie.Need-within-requires
-within-requires c κs = search needs
 
 returns-2 : tie.Need-returns-2
 returns-2 c =
@@ -68,13 +56,5 @@ returns-2 c =
     ∙ sym (ap (λ (o : Outcome Fraction). after o (λ p. within (over (s .args .s +ℤ p .num) 1))) (whole-narrow z h))
 
 pub add-product-whole-spec : {M : Type 1} → statement M
-add-product-whole-spec =
-    tie.close
-    (tie.spec
-    whole-product-requires
-    magnitude-wide-requires
-    returns
-    whole-sum-requires
-    magnitude-wide-requires-2
-    within-requires
-    returns-2)
+add-product-whole-spec = tie.close (tie.spec (search needs) (search needs) returns whole-sum-requires (search needs)
+    (search needs) returns-2)

@@ -29,20 +29,8 @@ total-is c =
     let y = c .cross2 in
     ap₂ _+ℤ_ (back64-of (x .result) (x .ok) ∙ x .ensures .0) (back64-of (y .result) (y .ok) ∙ y .ensures .0)
 
-cross-requires : tie.Need-cross-requires
-cross-requires c κs = search needs
-
-cross-requires-2 : tie.Need-cross-requires-2
-cross-requires-2 c κs = search needs
-
 add-t : tie.Need-add-t
 add-t c = fits c
-
-magnitude-wide-requires : tie.Need-magnitude-wide-requires
-magnitude-wide-requires c κs = search needs
-
-denominators-requires : tie.Need-denominators-requires
-denominators-requires c κs = search needs
 
 returns : tie.Need-returns
 returns c =
@@ -55,6 +43,4 @@ returns c =
     (c .denominators .ensures)
 
 pub added-spec : {M : Type 1} → statement M
-added-spec =
-    tie.close
-    (tie.spec cross-requires cross-requires-2 add-t magnitude-wide-requires denominators-requires returns)
+added-spec = tie.close (tie.spec (search needs) (search needs) add-t (search needs) (search needs) returns)

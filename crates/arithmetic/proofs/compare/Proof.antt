@@ -10,15 +10,6 @@ use Rattle.arithmetic.specs.Fraction.{order}
 use Rattle.arithmetic.specs.Meaning.{are-both}
 use Rattle.arithmetic.proofs.Ways.{on-fractions}
 
-cross-requires : tie.Need-cross-requires
-cross-requires c κs = search needs
-
-cross-requires-2 : tie.Need-cross-requires-2
-cross-requires-2 c κs = search needs
-
-ordered-requires : tie.Need-ordered-requires
-ordered-requires c κs = search needs
-
 returns : tie.Need-returns
 returns c = λ v w.
     let x = c .before .before .cross in
@@ -29,4 +20,4 @@ returns c = λ v w.
     ∙ sym (on-fractions _ _ (are-both (s .args .a) (s .args .b) (v, w)))
 
 pub compare-spec : {M : Type 1} → statement M
-compare-spec = tie.close (tie.spec cross-requires cross-requires-2 ordered-requires returns)
+compare-spec = tie.close (tie.spec (search needs) (search needs) (search needs) returns)

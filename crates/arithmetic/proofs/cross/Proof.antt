@@ -21,12 +21,6 @@ product-is c =
     let w = c .wide-signed in
     back64-of (w .result) (w .ok) ∙ cross-read (s .args .a) (s .args .b) _ (w .result) (told-a s) (told-b s) (c .before .before .magnitude .ensures) (w .ensures)
 
-magnitude-requires : tie.Need-magnitude-requires
-magnitude-requires c κs = search needs
-
-wide-signed-requires : tie.Need-wide-signed-requires
-wide-signed-requires c κs = search needs
-
 returns : tie.Need-returns
 returns c =
     let s = c .before .before .before .before in
@@ -34,4 +28,4 @@ returns c =
     (product-is c, subst (λ (z : ℤ). mag z < 4611686018427387904) (sym (product-is c)) small)
 
 pub cross-spec : {M : Type 1} → statement M
-cross-spec = tie.close (tie.spec magnitude-requires wide-signed-requires returns)
+cross-spec = tie.close (tie.spec (search needs) (search needs) returns)

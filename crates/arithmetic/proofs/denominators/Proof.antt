@@ -14,15 +14,6 @@ told-a c = let g = c .good .0 .1 .1 in (g .0 .1, g .1 .0 .1)
 told-b : (c : tie.Start) → Told (c .args .b)
 told-b c = let g = c .good .1 .0 .1 .1 in (g .0 .1, g .1 .0 .1)
 
-magnitude-requires : tie.Need-magnitude-requires
-magnitude-requires c κs = search needs
-
-magnitude-requires-2 : tie.Need-magnitude-requires-2
-magnitude-requires-2 c κs = search needs
-
-wide-requires : tie.Need-wide-requires
-wide-requires c κs = search needs
-
 returns : tie.Need-returns
 returns c =
     let s = c .before .before .before .before .before in
@@ -30,4 +21,4 @@ returns c =
     ∙ ap₂ _*_ (c .before .before .before .magnitude .ensures ∙ ap natAbs (back-of (s .args .a .den) (told-a s .1))) (c .before .magnitude2 .ensures ∙ ap natAbs (back-of (s .args .b .den) (told-b s .1)))
 
 pub denominators-spec : {M : Type 1} → statement M
-denominators-spec = tie.close (tie.spec magnitude-requires magnitude-requires-2 wide-requires returns)
+denominators-spec = tie.close (tie.spec (search needs) (search needs) (search needs) returns)

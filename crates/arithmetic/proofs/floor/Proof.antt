@@ -17,9 +17,6 @@ told c = let g = c .good .0 .1 .1 in (g .0 .1, g .1 .0 .1)
 shaped : (c : tie.Then1) → isShaped (c .before .before .args .a) ≡ true
 shaped c = sym (c .before .is-shaped .ensures) ∙ c .if1 .taken
 
-is-shaped-requires : tie.Need-is-shaped-requires
-is-shaped-requires c κs = search needs
-
 floor-of-requires : tie.Need-floor-of-requires
 floor-of-requires c κs =
     let s = c .before .before .before .before in
@@ -37,4 +34,4 @@ returns-2 : tie.Need-returns-2
 returns-2 c = λ v. absurd (subst T (sym (is-shaped (c .before .before .args .a) v) ∙ sym (c .before .is-shaped .ensures) ∙ c .if1 .left) tt)
 
 pub floor-spec : {M : Type 1} → statement M
-floor-spec = tie.close (tie.spec is-shaped-requires floor-of-requires returns returns-2)
+floor-spec = tie.close (tie.spec (search needs) floor-of-requires returns returns-2)

@@ -9,12 +9,6 @@ use Rattle.arithmetic.proofs.is_shaped.Tie as tie
 use Rattle.arithmetic.proofs.magnitude.Reads as magnitude-reads
 use Rattle.integers.proofs.Casts.{at-most-zero, back-of}
 
-magnitude-requires : tie.Need-magnitude-requires
-magnitude-requires c κs = search needs
-
-cast-result : tie.Need-cast-result
-cast-result c = search needs
-
 returns : tie.Need-returns
 returns c =
     let d = c .before .before .before .args .f .den in
@@ -28,4 +22,4 @@ returns-2 c =
     rw (not-false (ltZ (pos 0) (f .den)) (sym (at-most-zero (f .den)) ∙ (rw (back-of (f .den) (k .struct-told2 .given .1 .0 .1)) at (c .before .if1 .left))), n)
 
 pub is-shaped-spec : {M : Type 1} → statement M
-is-shaped-spec = tie.close (tie.spec magnitude-requires cast-result returns returns-2)
+is-shaped-spec = tie.close (tie.spec (search needs) (search needs) returns returns-2)

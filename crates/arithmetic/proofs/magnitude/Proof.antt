@@ -14,9 +14,6 @@ found c = let f = c .before .fits .x in c .magnitude-wide .ensures ∙ (rw (back
 cast-magnitude-wide : tie.Need-cast-magnitude-wide
 cast-magnitude-wide c = search (needs, widen)
 
-magnitude-wide-requires : tie.Need-magnitude-wide-requires
-magnitude-wide-requires c κs = search needs
-
 cast-result : tie.Need-cast-result
 cast-result c = record { fits = omega (arith, found c, natAbs-small (c .before .args .x) (c .before .fits .x)) }
 
@@ -24,5 +21,4 @@ returns : tie.Need-returns
 returns c = found c
 
 pub magnitude-spec : {M : Type 1} → statement M
-magnitude-spec =
-    tie.close (tie.spec cast-magnitude-wide magnitude-wide-requires cast-result returns)
+magnitude-spec = tie.close (tie.spec cast-magnitude-wide (search needs) cast-result returns)

@@ -54,10 +54,5 @@ cast-result-2 c =
 returns : tie.Need-returns
 returns c = rw (read-negated c, below c .size)
 
-returns-2 : tie.Need-returns-2
-returns-2 c = search needs
-
 pub magnitude-wide-spec : {M : Type 1} → statement M
-magnitude-wide-spec =
-    tie.close
-    (tie.spec add-result sub-result cast-result add-result-2 cast-result-2 returns returns-2)
+magnitude-wide-spec = tie.close (tie.spec add-result sub-result cast-result add-result-2 cast-result-2 returns (λ c. search needs))

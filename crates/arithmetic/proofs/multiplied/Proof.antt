@@ -26,22 +26,10 @@ top-is c =
     let s = c .before .before .before .before .before in
     c .wide .ensures ∙ ap₂ _*_ (c .before .before .magnitude .ensures ∙ ap natAbs (back-of (s .args .a .num) (told-a s .0))) (c .before .magnitude2 .ensures ∙ ap natAbs (back-of (s .args .b .num) (told-b s .0)))
 
-magnitude-requires : tie.Need-magnitude-requires
-magnitude-requires c κs = search needs
-
-magnitude-requires-2 : tie.Need-magnitude-requires-2
-magnitude-requires-2 c κs = search needs
-
-wide-requires : tie.Need-wide-requires
-wide-requires c κs = search needs
-
-denominators-requires : tie.Need-denominators-requires
-denominators-requires c κs = search needs
-
 returns : tie.Need-returns
 returns c =
     let s = c .before .before .before .before .before .before in
     ap₂ over (ap₂ withSign (sign s) (top-is (c .before)) ∙ product-sign (s .args .a .num) (s .args .b .num)) (c .denominators .ensures)
 
 pub multiplied-spec : {M : Type 1} → statement M
-multiplied-spec = tie.close (tie.spec magnitude-requires magnitude-requires-2 wide-requires denominators-requires returns)
+multiplied-spec = tie.close (tie.spec (search needs) (search needs) (search needs) (search needs) returns)

@@ -7,12 +7,6 @@ use Rattle.arithmetic.proofs.product.Tie as tie
 use Rattle.arithmetic.specs.Meaning.{are-both, exact-positive}
 use Rattle.arithmetic.proofs.Ways.{on-fractions, reduced-exact}
 
-multiplied-requires : tie.Need-multiplied-requires
-multiplied-requires c κs = search needs
-
-reduced-requires : tie.Need-reduced-requires
-reduced-requires c κs = search needs
-
 returns : tie.Need-returns
 returns c = λ v w.
     let s = c .before .before in
@@ -21,4 +15,4 @@ returns c = λ v w.
     ∙ sym (on-fractions _ _ (are-both (s .args .a) (s .args .b) (v, w)))
 
 pub product-spec : {M : Type 1} → statement M
-product-spec = tie.close (tie.spec multiplied-requires reduced-requires returns)
+product-spec = tie.close (tie.spec (search needs) (search needs) returns)

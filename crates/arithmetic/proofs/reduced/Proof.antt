@@ -17,17 +17,11 @@ use Rattle.arithmetic.proofs.Lowest.{lowest-by, divisor-positive, whole
 returns : tie.Need-returns
 returns c = sym (not-fractions _ _ (ap not (eq-eqb (c .before .args .d) 0 (c .if1 .taken))))
 
-within-requires : tie.Need-within-requires
-within-requires c κs = search needs
-
 returns-2 : tie.Need-returns-2
 returns-2 c =
     let a = c .before .before .before .args in
     c .within .ensures ∙ ap within (whole-lowest (withSign (a .negative) (a .n)) (over (withSign (a .negative) (a .n)) (a .d)) refl (c .before .if2 .taken))
     ∙ sym (on-fractions _ _ (ap not (ne-eqb (a .d) 0 (c .before .before .if1 .left))))
-
-gcd-requires : tie.Need-gcd-requires
-gcd-requires c κs = search needs
 
 -- the common divisor is not 0
 positive : (c : tie.After-gcd) → 0 < c .gcd .result
@@ -39,9 +33,6 @@ div-within c = omega (arith, positive c)
 div-within-2 : tie.Need-div-within-2
 div-within-2 c = omega (arith, positive c)
 
-within-requires-2 : tie.Need-within-requires-2
-within-requires-2 c κs = search needs
-
 returns-3 : tie.Need-returns-3
 returns-3 c =
     let a = c .before .before .before .before .args in
@@ -49,14 +40,5 @@ returns-3 c =
     ∙ sym (on-fractions _ _ (ap not (ne-eqb (a .d) 0 (c .before .before .before .if1 .left))))
 
 pub reduced-spec : {M : Type 1} → statement M
-reduced-spec =
-    tie.close
-    (tie.spec
-    returns
-    within-requires
-    returns-2
-    gcd-requires
-    div-within
-    div-within-2
-    within-requires-2
+reduced-spec = tie.close (tie.spec returns (search needs) returns-2 (search needs) div-within div-within-2 (search needs)
     returns-3)

@@ -6,9 +6,6 @@ use Rattle.arithmetic.proofs.signed.Statement.{statement}
 use Rattle.arithmetic.proofs.signed.Tie as tie
 use Rattle.integers.proofs.Casts.{back-pos, zero-minus, neg-pos-fits}
 
-cast-p : tie.Need-cast-p
-cast-p c = search needs
-
 sub-result : tie.Need-sub-result
 sub-result c = rw (back-pos (c .before .pre), zero-minus) (neg-pos-fits _ (c .before .pre))
 
@@ -19,4 +16,4 @@ returns-2 : tie.Need-returns-2
 returns-2 c = rw (back-pos (c .before .pre), c .if1 .left)
 
 pub signed-spec : {M : Type 1} → statement M
-signed-spec = tie.close (tie.spec cast-p sub-result returns returns-2)
+signed-spec = tie.close (tie.spec (search needs) sub-result returns returns-2)

@@ -27,12 +27,6 @@ module _ (a b : Fraction) (v : IsFraction a) (w : IsFraction b) where
   apart : Coprime (natAbs (a .den)) (natAbs (b .den)) → within (exact a +Q exact b) ≡ sumOf a b
   apart h = ap within (sum-lowest (exact a) (exact b) (exact-positive a v) (exact-positive b w) (v .lowest-terms) (w .lowest-terms) h) ∙ known
 
-added-requires : tie.Need-added-requires
-added-requires c κs = search needs
-
-within-requires : tie.Need-within-requires
-within-requires c κs = search needs
-
 returns : tie.Need-returns
 returns c = λ v w.
     let k = c .before .before .before .before in
@@ -41,18 +35,12 @@ returns c = λ v w.
     c .within .ensures ∙ ap within (k .added .ensures)
     ∙ apart (s .args .a) (s .args .b) v w (coprime-sym (natAbs (s .args .b .den)) _ (rw one (coprime-one (natAbs (s .args .b .den)))))
 
-within-requires-2 : tie.Need-within-requires-2
-within-requires-2 c κs = search needs
-
 returns-2 : tie.Need-returns-2
 returns-2 c = λ v w.
     let k = c .before .before .before .before .before .before .before in
     let s = k .before in
     let one : natAbs (s .args .b .den) ≡ 1 = ap natAbs (one-read (s .args .b .den) (told-b s .1) (c .before .if2 .taken)) in
     c .within2 .ensures ∙ ap within (k .added .ensures) ∙ apart (s .args .a) (s .args .b) v w (rw one (coprime-one (natAbs (s .args .a .den))))
-
-reduced-requires : tie.Need-reduced-requires
-reduced-requires c κs = search needs
 
 returns-3 : tie.Need-returns-3
 returns-3 c = λ v w.
@@ -62,13 +50,4 @@ returns-3 c = λ v w.
     ∙ known (s .args .a) (s .args .b) v w
 
 pub sum-spec : {M : Type 1} → statement M
-sum-spec =
-    tie.close
-    (tie.spec
-    added-requires
-    within-requires
-    returns
-    within-requires-2
-    returns-2
-    reduced-requires
-    returns-3)
+sum-spec = tie.close (tie.spec (search needs) (search needs) returns (search needs) returns-2 (search needs) returns-3)

@@ -7,8 +7,5 @@ use Rattle.integers.proofs.Casts.{product-fits}
 mul-result : tie.Need-mul-result
 mul-result c = product-fits (search needs) (search needs)
 
-returns : tie.Need-returns
-returns c = search needs
-
 pub wide-spec : {M : Type 1} → statement M
-wide-spec = tie.close (tie.spec mul-result returns)
+wide-spec = tie.close (tie.spec mul-result (search needs))

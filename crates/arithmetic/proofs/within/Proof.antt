@@ -18,12 +18,6 @@ returns-2 c =
     let s = c .before .before .args in
     sym (wide-den (s .negative) (s .n) (s .d) (omega arith) (c .if2 .taken))
 
-signed-requires : tie.Need-signed-requires
-signed-requires c κs = omega arith
-
-signed-requires-2 : tie.Need-signed-requires-2
-signed-requires-2 c κs = omega arith
-
 returns-3 : tie.Need-returns-3
 returns-3 c =
     let s = c .before .before .before .before .args in
@@ -35,4 +29,4 @@ returns-3 c =
     ∙ sym (narrow (s .negative) (s .n) (s .d) (omega arith) (omega arith))
 
 pub within-spec : {M : Type 1} → statement M
-within-spec = tie.close (tie.spec returns returns-2 signed-requires signed-requires-2 returns-3)
+within-spec = tie.close (tie.spec returns returns-2 (λ c κs. omega arith) (λ c κs. omega arith) returns-3)

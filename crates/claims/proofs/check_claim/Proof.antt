@@ -7,16 +7,10 @@ use Rattle.rules.specs.Claims.{lastRow, lastPlace}
 use Rattle.claims.proofs.check_claim.Statement.{statement}
 use Rattle.claims.proofs.check_claim.Tie as tie
 
-is-proved-requires : tie.Need-is-proved-requires
-is-proved-requires c κs = search needs
-
 returns : tie.Need-returns
 returns c =
     let h = c .before .before .before .before .args .header in
     λ tree e. ap (λ b. require b 17 (lastPlace (h .derivation) (lastRow tree))) (sym (c .if1 .taken) ∙ c .before .is-proved .ensures tree e)
-
-last-place-requires : tie.Need-last-place-requires
-last-place-requires c κs = search needs
 
 returns-2 : tie.Need-returns-2
 returns-2 c =
@@ -24,4 +18,4 @@ returns-2 c =
     λ tree e. ap (refused 17) (c .last-place .ensures tree _ _ e) ∙ ap (λ b. require b 17 (lastPlace (h .derivation) (lastRow tree))) (sym (c .before .if1 .left) ∙ c .before .before .is-proved .ensures tree e)
 
 pub check-claim-spec : {M : Type 1} → statement M
-check-claim-spec = tie.close (tie.spec is-proved-requires returns last-place-requires returns-2)
+check-claim-spec = tie.close (tie.spec (search needs) returns (search needs) returns-2)

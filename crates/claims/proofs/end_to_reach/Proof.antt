@@ -9,9 +9,6 @@ use Rattle.claims.proofs.AskedLaws.{to-reach}
 use Rattle.claims.proofs.end_to_reach.Statement.{statement}
 use Rattle.claims.proofs.end_to_reach.Tie as tie
 
-end-of-requires : tie.Need-end-of-requires
-end-of-requires c κs = search needs
-
 returns : tie.Need-returns
 returns c = (
   (λ tree rows e. c .end-of .ensures (tree .relation .claim) (e .claim) ∙ to-reach (tree .objective .direction) (tree .relation .claim) (maximize-is e)),
@@ -19,4 +16,4 @@ returns c = (
 )
 
 pub end-to-reach-spec : {M : Type 1} → statement M
-end-to-reach-spec = tie.close (tie.spec end-of-requires returns)
+end-to-reach-spec = tie.close (tie.spec (search needs) returns)

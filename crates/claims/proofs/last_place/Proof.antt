@@ -11,12 +11,6 @@ use Rattle.claims.proofs.last_place.Tie as tie
 returns : tie.Need-returns
 returns c = λ tree index values e. sym (ap (lastPlace _) (no-last e (c .if1 .taken)))
 
-sub-entry-at : tie.Need-sub-entry-at
-sub-entry-at c = search needs
-
-entry-at-requires : tie.Need-entry-at-requires
-entry-at-requires c κs = search needs
-
 returns-2 : tie.Need-returns-2
 returns-2 c =
     let lt = c .before .before .if1 .left in
@@ -24,4 +18,4 @@ returns-2 c =
     c .entry-at .ensures .place .is ∙ e .row _ (omega (arith, lt)) .place-is ∙ place-of-last e _ lt
 
 pub last-place-spec : {M : Type 1} → statement M
-last-place-spec = tie.close (tie.spec returns sub-entry-at entry-at-requires returns-2)
+last-place-spec = tie.close (tie.spec returns (search needs) (search needs) returns-2)

@@ -10,15 +10,6 @@ use Rattle.derivations.proofs.ReasonsLaws.{lists-derived, derivation-is
 use Rattle.derivations.proofs.check_derivation.Statement.{statement}
 use Rattle.derivations.proofs.check_derivation.Tie as tie
 
-row-at-requires : tie.Need-row-at-requires
-row-at-requires c κs = search needs
-
-named-by-requires : tie.Need-named-by-requires
-named-by-requires c κs = search needs
-
-none-spent-requires : tie.Need-none-spent-requires
-none-spent-requires c κs = search needs
-
 returns : tie.Need-returns
 unfolding checkDerivation
 returns c =
@@ -28,9 +19,6 @@ returns c =
     let t = none-named (derivation-is (h .encodes) k q lt) _ (w .before .named-by .ensures) lt (w .none-spent .ensures tree _ (h .encodes)) in
     require-stop 11 _ t (checkReason tree os (d .row) (d .reason)) (lists-derived (h .encodes) k q lt (w .before .before .row-at .ensures tree _) .is .place-is) (not-true _ (c .if1 .taken))
     ∙ ap (λ (v : Verdict). v andThen checkReason tree os (d .row) (d .reason)) (each-require _ 11 (d .row .name .place) (named (d .reason)))
-
-check-reason-requires : tie.Need-check-reason-requires
-check-reason-requires c κs = search needs
 
 returns-2 : tie.Need-returns-2
 unfolding checkDerivation
@@ -44,12 +32,4 @@ returns-2 c =
     ∙ ap (λ (v : Verdict). v andThen checkReason tree os (d .row) (d .reason)) (each-require _ 11 (d .row .name .place) (named (d .reason)))
 
 pub check-derivation-spec : {M : Type 1} → statement M
-check-derivation-spec =
-    tie.close
-    (tie.spec
-    row-at-requires
-    named-by-requires
-    none-spent-requires
-    returns
-    check-reason-requires
-    returns-2)
+check-derivation-spec = tie.close (tie.spec (search needs) (search needs) (search needs) returns (search needs) returns-2)

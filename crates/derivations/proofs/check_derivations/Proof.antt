@@ -21,23 +21,8 @@ Inv-loop index values rows header any best integers end own₀ own = (header .gi
 abbrev μ-loop : tie.MeasureT-loop
 μ-loop index values rows header any best integers end own₀ own = end - own
 
-integers-of-requires : tie.Need-integers-of-requires Inv-loop μ-loop
-integers-of-requires c κs = search needs
-
-marks-of-requires : tie.Need-marks-of-requires Inv-loop μ-loop
-marks-of-requires c κs = search needs
-
 loop-holds : tie.Need-loop-holds Inv-loop μ-loop
 loop-holds c = (omega arith, λ tree os e b f. left-all e os)
-
-check-derivation-requires : tie.Need-check-derivation-requires Inv-loop μ-loop
-check-derivation-requires c κs = search needs
-
-enum-told : tie.Need-enum-told Inv-loop μ-loop
-enum-told c = search needs
-
-enum-told-2 : tie.Need-enum-told-2 Inv-loop μ-loop
-enum-told-2 c = search needs
 
 returns : tie.Need-returns Inv-loop μ-loop
 returns c =
@@ -46,12 +31,6 @@ returns c =
     let l = w .before .before in
     verdict-stop _ _ (w .check-derivation .ensures tree os _ (checks-are e (l .before .before .before .integers-of .ensures) (l .before .before .marks-of .ensures)) b f (omega (arith, l .before .loop .inv .0)) (l .loop-test .taken)) _ _ (c .enum-told2 .given .1)
     ∙ left-next e os (l .before .loop .inv .0) (l .before .loop .inv .1 tree os e b f) (l .loop-test .taken)
-
-add-own : tie.Need-add-own Inv-loop μ-loop
-add-own c = search needs
-
-loop-less : tie.Need-loop-less Inv-loop μ-loop
-loop-less c = search needs
 
 loop-again : tie.Need-loop-again Inv-loop μ-loop
 loop-again c =
@@ -67,19 +46,5 @@ returns-2 : tie.Need-returns-2 Inv-loop μ-loop
 returns-2 c = λ tree os e b f. left-none e os (c .before .loop .inv .0) (c .before .loop .inv .1 tree os e b f) (c .loop-test .left)
 
 pub check-derivations-spec : {M : Type 1} → statement M
-check-derivations-spec =
-    tie.close
-    (tie.spec
-    Inv-loop
-    μ-loop
-    integers-of-requires
-    marks-of-requires
-    loop-holds
-    check-derivation-requires
-    enum-told
-    enum-told-2
-    returns
-    add-own
-    loop-less
-    loop-again
-    returns-2)
+check-derivations-spec = tie.close (tie.spec Inv-loop μ-loop (search needs) (search needs) loop-holds (search needs)
+    (search needs) (search needs) returns (search needs) (search needs) loop-again returns-2)

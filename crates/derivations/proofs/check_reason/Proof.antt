@@ -11,48 +11,6 @@ use Rattle.derivations.proofs.ReasonsLaws.{unsplit-is, reason-is, named
 use Rattle.derivations.proofs.check_reason.Statement.{statement}
 use Rattle.derivations.proofs.check_reason.Tie as tie
 
-word-of-requires : tie.Need-word-of-requires
-word-of-requires c κs = search needs
-
-enum-told : tie.Need-enum-told
-enum-told c = search needs
-
-enum-told-2 : tie.Need-enum-told-2
-enum-told-2 c = search needs
-
-check-combined-requires : tie.Need-check-combined-requires
-check-combined-requires c κs = search needs
-
-enum-told-3 : tie.Need-enum-told-3
-enum-told-3 c = search needs
-
-check-combined-requires-2 : tie.Need-check-combined-requires-2
-check-combined-requires-2 c κs = search needs
-
-enum-told-4 : tie.Need-enum-told-4
-enum-told-4 c = search needs
-
-cell-at-requires : tie.Need-cell-at-requires
-cell-at-requires c κs = search needs
-
-cell-at-requires-2 : tie.Need-cell-at-requires-2
-cell-at-requires-2 c κs = search needs
-
-cell-at-requires-3 : tie.Need-cell-at-requires-3
-cell-at-requires-3 c κs = search needs
-
-cell-at-requires-4 : tie.Need-cell-at-requires-4
-cell-at-requires-4 c κs = search needs
-
-check-uns-requires : tie.Need-check-uns-requires
-check-uns-requires c κs = search needs
-
-enum-told-5 : tie.Need-enum-told-5
-enum-told-5 c = search needs
-
-check-sol-requires : tie.Need-check-sol-requires
-check-sol-requires c κs = search needs
-
 returns : tie.Need-returns
 returns c = λ tree os r d h b f l lt k q. sym (ap (checkReason tree os r) (reason-is k (c .before .before .word-of .ensures) (c .enum-told .given .1) .1))
 
@@ -88,25 +46,6 @@ returns-5 c =
     ∙ sym (ap (checkReason tree os r) (reason-is k (c .before .before .before .word-of .ensures) (c .before .enum-told5 .given .1) .1))
 
 pub check-reason-spec : {M : Type 1} → statement M
-check-reason-spec =
-    tie.close
-    (tie.spec
-    word-of-requires
-    enum-told
-    enum-told-2
-    check-combined-requires
-    enum-told-3
-    check-combined-requires-2
-    enum-told-4
-    cell-at-requires
-    cell-at-requires-2
-    cell-at-requires-3
-    cell-at-requires-4
-    check-uns-requires
-    enum-told-5
-    check-sol-requires
-    returns
-    returns-2
-    returns-3
-    returns-4
-    returns-5)
+check-reason-spec = tie.close (tie.spec (search needs) (search needs) (search needs) (search needs) (search needs)
+    (search needs) (search needs) (search needs) (search needs) (search needs) (search needs) (search needs) (search needs)
+    (search needs) returns returns-2 returns-3 returns-4 returns-5)

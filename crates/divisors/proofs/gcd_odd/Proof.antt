@@ -39,12 +39,6 @@ left-greater c =
 loop-holds : tie.Need-loop-holds Inv-loop μ-loop
 loop-holds c = record { odd-x = c .pre .0; odd-y = c .pre .1; below-x = omega arith; below-y = omega arith; same = refl }
 
-wrapping-sub-u64-requires : tie.Need-wrapping-sub-u64-requires Inv-loop μ-loop
-wrapping-sub-u64-requires c κs = search needs
-
-sub-y : tie.Need-sub-y Inv-loop μ-loop
-sub-y c = omega arith
-
 cast-y : tie.Need-cast-y Inv-loop μ-loop
 cast-y c = record { fits = omega (arith, left-less c .below) }
 
@@ -76,20 +70,5 @@ returns c =
     sym (gcd-same (l .x)) ∙ ap (gcd (l .x)) e ∙ l .inv .same
 
 pub gcd-odd-spec : {M : Type 1} → statement M
-gcd-odd-spec =
-    tie.close
-    (tie.spec
-    Inv-loop
-    μ-loop
-    loop-holds
-    wrapping-sub-u64-requires
-    sub-y
-    cast-y
-    shr-y
-    loop-less
-    loop-again
-    cast-y-2
-    shr-y-2
-    loop-less-2
-    loop-again-2
-    returns)
+gcd-odd-spec = tie.close (tie.spec Inv-loop μ-loop loop-holds (search needs) (λ c. omega arith) cast-y shr-y loop-less
+    loop-again cast-y-2 shr-y-2 loop-less-2 loop-again-2 returns)

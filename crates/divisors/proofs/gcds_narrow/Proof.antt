@@ -70,21 +70,5 @@ returns : tie.Need-returns Inv-loop μ-loop
 returns c = (c .before .before .reached .ensures, c .before .reached2 .ensures, c .reached3 .ensures)
 
 pub gcds-narrow-spec : {M : Type 1} → statement M
-gcds-narrow-spec =
-    tie.close
-    (tie.spec
-    Inv-loop
-    μ-loop
-    odd-requires
-    odd-requires-2
-    odd-requires-3
-    loop-holds
-    step-requires
-    step-requires-2
-    step-requires-3
-    loop-less
-    loop-again
-    reached-requires
-    reached-requires-2
-    reached-requires-3
-    returns)
+gcds-narrow-spec = tie.close (tie.spec Inv-loop μ-loop odd-requires odd-requires-2 odd-requires-3 loop-holds step-requires
+    step-requires-2 step-requires-3 loop-less loop-again reached-requires reached-requires-2 reached-requires-3 returns)

@@ -12,11 +12,5 @@ with-twos-requires c κs = let s = c .before .before in (s .pre .0 .positive-x, 
 with-twos-requires-2 : tie.Need-with-twos-requires-2
 with-twos-requires-2 c κs = let s = c .before .before in (s .pre .0 .positive-x, s .pre .0 .positive-y, going-zero _ _ _ _ (s .pre .1) (omega (arith, s .pre .2, c .if1 .left)))
 
-returns : tie.Need-returns
-returns c = search needs
-
-returns-2 : tie.Need-returns-2
-returns-2 c = search needs
-
 pub reached-spec : {M : Type 1} → statement M
-reached-spec = tie.close (tie.spec with-twos-requires with-twos-requires-2 returns returns-2)
+reached-spec = tie.close (tie.spec with-twos-requires with-twos-requires-2 (search needs) (search needs))

@@ -16,9 +16,6 @@ add-t c = record { fits = omega (arith, c .pre .below-first) }
 sub-t : tie.Need-sub-t
 sub-t c = omega (arith, c .pre .below-second)
 
-sub-t9 : tie.Need-sub-t9
-sub-t9 c = omega arith
-
 cast-t10 : tie.Need-cast-t10
 cast-t10 c = record { fits = omega (arith, fewer (c .before)) }
 
@@ -42,4 +39,4 @@ returns-2 c =
     stepped-greater 64 _ _ _ _ h (omega arith) (λ l. zeros-greater 64 63 _ _ _ (h .below-first) (h .below-second) refl (omega (arith, h .below-first)) l)
 
 pub step-spec : {M : Type 1} → statement M
-step-spec = tie.close (tie.spec add-t sub-t sub-t9 cast-t10 shr-t11 cast-t13 shr-t14 returns returns-2)
+step-spec = tie.close (tie.spec add-t sub-t (λ c. omega arith) cast-t10 shr-t11 cast-t13 shr-t14 returns returns-2)

@@ -14,23 +14,11 @@ use Rattle.fraction.proofs.add_product.Tie as tie
 gave : (c : tie.After-p) → let s = c .before .before .before in productOf (s .args .a) (s .args .b) ≡ gives (c .p .given .0 .0)
 gave c = sym (c .before .before .product .ensures) ∙ ap arithmeticSays (c .p .given .1)
 
-product-requires : tie.Need-product-requires
-product-requires c κs = search needs
-
-enum-known-p : tie.Need-enum-known-p
-enum-known-p c = search needs
-
 returns : tie.Need-returns
 returns c =
     let s = c .before .before in
     stays (c .before .product .result) (sumOf (s .args .sum)) (c .match .keys2)
     ∙ ap (λ (o : Outcome Fraction). after o (sumOf (s .args .sum))) (c .before .product .ensures)
-
-is-fraction-requires : tie.Need-is-fraction-requires
-is-fraction-requires c κs = search needs
-
-sum-requires : tie.Need-sum-requires
-sum-requires c κs = search needs
 
 returns-2 : tie.Need-returns-2
 returns-2 c =
@@ -46,4 +34,4 @@ returns-3 c =
     sym (ap (λ (o : Outcome Fraction). after o (sumOf (s .args .sum))) (gave k) ∙ not-fractions _ _ (first-false _ _ (sym (c .before .is-fraction .ensures) ∙ c .if1 .left)))
 
 pub add-product-spec : {M : Type 1} → statement M
-add-product-spec = tie.close (tie.spec product-requires enum-known-p returns is-fraction-requires sum-requires returns-2 returns-3)
+add-product-spec = tie.close (tie.spec (search needs) (search needs) returns (search needs) (search needs) returns-2 returns-3)

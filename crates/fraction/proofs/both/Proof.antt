@@ -12,12 +12,6 @@ told-a c = let g = c .good .0 .1 .1 in (g .0 .1, g .1 .0 .1)
 told-b : (c : tie.Start) → Told (c .args .b)
 told-b c = let g = c .good .1 .0 .1 .1 in (g .0 .1, g .1 .0 .1)
 
-both-shaped-requires : tie.Need-both-shaped-requires
-both-shaped-requires c κs = search needs
-
-both-lowest-requires : tie.Need-both-lowest-requires
-both-lowest-requires c κs = search needs
-
 returns : tie.Need-returns
 returns c =
     let s = c .before .before .before in
@@ -29,4 +23,4 @@ returns-2 c =
     sym (not-both-shaped (s .args .a) (s .args .b) (told-a s) (told-b s) (sym (c .before .both-shaped .ensures) ∙ c .if1 .left))
 
 pub both-spec : {M : Type 1} → statement M
-both-spec = tie.close (tie.spec both-shaped-requires both-lowest-requires returns returns-2)
+both-spec = tie.close (tie.spec (search needs) (search needs) returns returns-2)

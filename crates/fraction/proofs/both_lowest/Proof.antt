@@ -7,32 +7,17 @@ use Rattle.fraction.proofs.Tested.{whole-lowest-terms, found-one, found
 use Rattle.fraction.proofs.both_lowest.Statement.{statement}
 use Rattle.fraction.proofs.both_lowest.Tie as tie
 
-parts-requires : tie.Need-parts-requires
-parts-requires c κs = search needs
-
-parts-requires-2 : tie.Need-parts-requires-2
-parts-requires-2 c κs = search needs
-
-is-lowest-requires : tie.Need-is-lowest-requires
-is-lowest-requires c κs = search needs
-
 returns : tie.Need-returns
 returns c =
     let k = c .before .before .before .before in
     let s = k .before in
     c .is-lowest .ensures ∙ sym (true-first (inLowestTerms (s .args .a)) (inLowestTerms (s .args .b)) (whole-lowest-terms _ _ (sym (k .parts .ensures .1) ∙ c .before .if1 .taken)))
 
-is-lowest-requires-2 : tie.Need-is-lowest-requires-2
-is-lowest-requires-2 c κs = search needs
-
 returns-2 : tie.Need-returns-2
 returns-2 c =
     let k = c .before .before .before .before .before in
     let s = k .before .before in
     c .is-lowest2 .ensures ∙ sym (true-second (inLowestTerms (s .args .a)) (inLowestTerms (s .args .b)) (whole-lowest-terms _ _ (sym (k .parts2 .ensures .1) ∙ c .before .if2 .taken)))
-
-gcds-requires : tie.Need-gcds-requires
-gcds-requires c κs = search needs
 
 returns-3 : tie.Need-returns-3
 returns-3 c =
@@ -53,4 +38,5 @@ returns-4 c =
     (found-more (s .args .a) (p .parts .result .x) (p .parts .result .y) (g .gcds .result .a) (p .parts .ensures .0) (p .parts .ensures .1) (g .gcds .ensures .0) (c .if3 .left)))
 
 pub both-lowest-spec : {M : Type 1} → statement M
-both-lowest-spec = tie.close (tie.spec parts-requires parts-requires-2 is-lowest-requires returns is-lowest-requires-2 returns-2 gcds-requires returns-3 returns-4)
+both-lowest-spec = tie.close (tie.spec (search needs) (search needs) (search needs) returns (search needs) returns-2
+    (search needs) returns-3 returns-4)

@@ -7,12 +7,6 @@ use Rattle.fraction.proofs.Tested.{first-false, true-first}
 use Rattle.fraction.proofs.both_shaped.Statement.{statement}
 use Rattle.fraction.proofs.both_shaped.Tie as tie
 
-is-shaped-requires : tie.Need-is-shaped-requires
-is-shaped-requires c κs = search needs
-
-is-shaped-requires-2 : tie.Need-is-shaped-requires-2
-is-shaped-requires-2 c κs = search needs
-
 returns : tie.Need-returns
 returns c =
     let s = c .before .before .before in
@@ -24,4 +18,4 @@ returns-2 c =
     sym (first-false (isShaped (s .args .a)) (isShaped (s .args .b)) (sym (c .before .is-shaped .ensures) ∙ c .if1 .left))
 
 pub both-shaped-spec : {M : Type 1} → statement M
-both-shaped-spec = tie.close (tie.spec is-shaped-requires is-shaped-requires-2 returns returns-2)
+both-shaped-spec = tie.close (tie.spec (search needs) (search needs) returns returns-2)

@@ -6,12 +6,6 @@ use Rattle.arithmetic.proofs.Ways.{not-fractions}
 use Rattle.fraction.proofs.ceiling.Statement.{statement}
 use Rattle.fraction.proofs.ceiling.Tie as tie
 
-is-fraction-requires : tie.Need-is-fraction-requires
-is-fraction-requires c κs = search needs
-
-ceiling-requires : tie.Need-ceiling-requires
-ceiling-requires c κs = search needs
-
 returns : tie.Need-returns
 returns c = c .ceiling .ensures (fraction-is (c .before .before .before .args .a) (sym (c .before .before .is-fraction .ensures) ∙ c .before .if1 .taken))
 
@@ -19,4 +13,4 @@ returns-2 : tie.Need-returns-2
 returns-2 c = sym (not-fractions _ _ (sym (c .before .is-fraction .ensures) ∙ c .if1 .left))
 
 pub ceiling-spec : {M : Type 1} → statement M
-ceiling-spec = tie.close (tie.spec is-fraction-requires ceiling-requires returns returns-2)
+ceiling-spec = tie.close (tie.spec (search needs) (search needs) returns returns-2)

@@ -6,12 +6,6 @@ use Rattle.arithmetic.proofs.Ways.{not-fractions}
 use Rattle.fraction.proofs.compare.Statement.{statement}
 use Rattle.fraction.proofs.compare.Tie as tie
 
-both-requires : tie.Need-both-requires
-both-requires c κs = search needs
-
-compare-requires : tie.Need-compare-requires
-compare-requires c κs = search needs
-
 returns : tie.Need-returns
 returns c =
     let s = c .before .before .before in
@@ -22,4 +16,4 @@ returns-2 : tie.Need-returns-2
 returns-2 c = sym (not-fractions _ _ (sym (c .before .both .ensures) ∙ c .if1 .left))
 
 pub compare-spec : {M : Type 1} → statement M
-compare-spec = tie.close (tie.spec both-requires compare-requires returns returns-2)
+compare-spec = tie.close (tie.spec (search needs) (search needs) returns returns-2)

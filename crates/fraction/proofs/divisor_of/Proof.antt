@@ -15,13 +15,10 @@ returns c =
 rem-gcd : tie.Need-rem-gcd
 rem-gcd c = c .before .before .pre
 
-gcd-requires : tie.Need-gcd-requires
-gcd-requires c κs = search needs
-
 returns-2 : tie.Need-returns-2
 returns-2 c =
     let s = c .before .before .before in
     c .gcd .ensures ∙ gcd-rest (s .args .q .top) (s .args .q .bottom) (s .pre)
 
 pub divisor-of-spec : {M : Type 1} → statement M
-divisor-of-spec = tie.close (tie.spec returns rem-gcd gcd-requires returns-2)
+divisor-of-spec = tie.close (tie.spec returns rem-gcd (search needs) returns-2)

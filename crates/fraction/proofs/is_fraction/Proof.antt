@@ -9,12 +9,6 @@ use Rattle.fraction.proofs.is_fraction.Tie as tie
 told : (c : tie.Start) → Told (c .args .f)
 told c = let g = c .good .0 .1 .1 in (g .0 .1, g .1 .0 .1)
 
-is-shaped-requires : tie.Need-is-shaped-requires
-is-shaped-requires c κs = search needs
-
-is-lowest-requires : tie.Need-is-lowest-requires
-is-lowest-requires c κs = search needs
-
 returns : tie.Need-returns
 returns c =
     let s = c .before .before .before in
@@ -26,4 +20,4 @@ returns-2 c =
     sym (unshaped (s .args .f) (told s) (sym (c .before .is-shaped .ensures) ∙ c .if1 .left))
 
 pub is-fraction-spec : {M : Type 1} → statement M
-is-fraction-spec = tie.close (tie.spec is-shaped-requires is-lowest-requires returns returns-2)
+is-fraction-spec = tie.close (tie.spec (search needs) (search needs) returns returns-2)

@@ -5,12 +5,6 @@ use Rattle.fraction.proofs.Tested.{whole-lowest-terms, found-test}
 use Rattle.fraction.proofs.is_lowest.Statement.{statement}
 use Rattle.fraction.proofs.is_lowest.Tie as tie
 
-parts-requires : tie.Need-parts-requires
-parts-requires c κs = search needs
-
-gcd-requires : tie.Need-gcd-requires
-gcd-requires c κs = search needs
-
 returns : tie.Need-returns
 returns c = sym (whole-lowest-terms _ _ (sym (c .before .before .parts .ensures .1) ∙ c .if1 .taken))
 
@@ -20,4 +14,4 @@ returns-2 c =
     found-test (k .before .args .f) (k .parts .result .x) (k .parts .result .y) (c .gcd .result) (k .parts .ensures .0) (k .parts .ensures .1) (c .gcd .ensures)
 
 pub is-lowest-spec : {M : Type 1} → statement M
-is-lowest-spec = tie.close (tie.spec parts-requires gcd-requires returns returns-2)
+is-lowest-spec = tie.close (tie.spec (search needs) (search needs) returns returns-2)

@@ -28,14 +28,8 @@ both-parts c =
     let s = c .before .before .before in
     gcd-by (natAbs (s .args .f .num)) (natAbs (s .args .f .den)) (s .args .g) (c .gcd .result) (s .pre .1) (shared c)
 
-parts-requires : tie.Need-parts-requires
-parts-requires c κs = search needs
-
 rem-gcd : tie.Need-rem-gcd
 rem-gcd c = c .before .before .pre .0
-
-gcd-requires : tie.Need-gcd-requires
-gcd-requires c κs = search needs
 
 returns : tie.Need-returns
 returns c =
@@ -46,9 +40,6 @@ returns c =
 rem-gcd-2 : tie.Need-rem-gcd-2
 rem-gcd-2 c = shared-positive (c .before .before)
 
-gcd-requires-2 : tie.Need-gcd-requires-2
-gcd-requires-2 c κs = search needs
-
 returns-2 : tie.Need-returns-2
 returns-2 c =
     let k = c .before .before .before in
@@ -56,4 +47,4 @@ returns-2 c =
     (c .gcd2 .ensures ∙ gcd-rest _ (k .gcd .result) (shared-positive k) ∙ ap (λ (n : ℕ). gcd n (k .gcd .result)) (k .before .before .parts .ensures .1) ∙ both-parts k)
 
 pub is-lowest-by-spec : {M : Type 1} → statement M
-is-lowest-by-spec = tie.close (tie.spec parts-requires rem-gcd gcd-requires returns rem-gcd-2 gcd-requires-2 returns-2)
+is-lowest-by-spec = tie.close (tie.spec (search needs) rem-gcd (search needs) returns rem-gcd-2 (search needs) returns-2)

@@ -30,9 +30,6 @@ div-within c = positive (c .before .before .before .before .before)
 div-within-2 : tie.Need-div-within-2
 div-within-2 c = positive (c .before .before .before .before .before .before)
 
-within-requires : tie.Need-within-requires
-within-requires c κs = search needs
-
 returns : tie.Need-returns
 returns c =
     let two = c .before .before .before in
@@ -57,4 +54,5 @@ returns-3 c =
     sym (not-fractions _ _ (first-false (inLowestTerms (s .args .a)) (inLowestTerms (s .args .b)) (sym (c .before .is-lowest-by .ensures) ∙ c .if1 .left)))
 
 pub lowest-by-spec : {M : Type 1} → statement M
-lowest-by-spec = tie.close (tie.spec is-lowest-by-requires is-lowest-by-requires-2 div-within div-within-2 within-requires returns returns-2 returns-3)
+lowest-by-spec = tie.close (tie.spec is-lowest-by-requires is-lowest-by-requires-2 div-within div-within-2 (search needs)
+    returns returns-2 returns-3)

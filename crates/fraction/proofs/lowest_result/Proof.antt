@@ -18,9 +18,6 @@ returns c = c .lowest-together .ensures
 divisor-of-requires : tie.Need-divisor-of-requires
 divisor-of-requires c κs = c .before .before .pre .positive
 
-within-requires : tie.Need-within-requires
-within-requires c κs = search needs
-
 returns-2 : tie.Need-returns-2
 returns-2 c =
     let k = c .before .before in
@@ -36,4 +33,5 @@ returns-3 : tie.Need-returns-3
 returns-3 c = c .lowest-by .ensures
 
 pub lowest-result-spec : {M : Type 1} → statement M
-lowest-result-spec = tie.close (tie.spec lowest-together-requires returns divisor-of-requires within-requires returns-2 lowest-by-requires returns-3)
+lowest-result-spec = tie.close (tie.spec lowest-together-requires returns divisor-of-requires (search needs) returns-2
+    lowest-by-requires returns-3)

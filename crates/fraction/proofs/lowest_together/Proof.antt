@@ -24,15 +24,6 @@ b-lowest g =
 positive : (g : tie.After-gcds) → 0 < g .gcds .result .c
 positive g = let q = g .before .before .before .args .q in divisor-positive (q .top) (q .bottom) (g .gcds .result .c) (g .before .before .before .pre) (g .gcds .ensures .2)
 
-parts-requires : tie.Need-parts-requires
-parts-requires c κs = search needs
-
-parts-requires-2 : tie.Need-parts-requires-2
-parts-requires-2 c κs = search needs
-
-gcds-requires : tie.Need-gcds-requires
-gcds-requires c κs = search needs
-
 returns : tie.Need-returns
 returns c =
     let g = c .before .before in
@@ -55,9 +46,6 @@ div-within c = positive (c .before .before .before .before)
 div-within-2 : tie.Need-div-within-2
 div-within-2 c = positive (c .before .before .before .before)
 
-within-requires : tie.Need-within-requires
-within-requires c κs = search needs
-
 returns-3 : tie.Need-returns-3
 returns-3 c =
     let two = c .before in
@@ -68,4 +56,5 @@ returns-3 c =
     ∙ sym (on-fractions _ _ (true-first (inLowestTerms (s .args .a)) (inLowestTerms (s .args .b)) (a-lowest g (two .before .before .if1 .left)) ∙ b-lowest g (two .if2 .left)))
 
 pub lowest-together-spec : {M : Type 1} → statement M
-lowest-together-spec = tie.close (tie.spec parts-requires parts-requires-2 gcds-requires returns returns-2 div-within div-within-2 within-requires returns-3)
+lowest-together-spec = tie.close (tie.spec (search needs) (search needs) (search needs) returns returns-2 div-within
+    div-within-2 (search needs) returns-3)

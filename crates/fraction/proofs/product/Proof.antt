@@ -20,12 +20,6 @@ told-b c = let g = c .good .1 .0 .1 .1 in (g .0 .1, g .1 .0 .1)
 shaped : (c : tie.Then1) → isShaped (c .before .before .args .a) && isShaped (c .before .before .args .b) ≡ true
 shaped c = sym (c .before .both-shaped .ensures) ∙ c .if1 .taken
 
-both-shaped-requires : tie.Need-both-shaped-requires
-both-shaped-requires c κs = search needs
-
-multiplied-requires : tie.Need-multiplied-requires
-multiplied-requires c κs = search needs
-
 lowest-result-requires : tie.Need-lowest-result-requires
 lowest-result-requires c κs =
     let s = c .before .before .before in
@@ -44,4 +38,4 @@ returns-2 c =
     sym (of-unshaped (s .args .a) (s .args .b) (told-a s) (told-b s) _ (sym (c .before .both-shaped .ensures) ∙ c .if1 .left))
 
 pub product-spec : {M : Type 1} → statement M
-product-spec = tie.close (tie.spec both-shaped-requires multiplied-requires lowest-result-requires returns returns-2)
+product-spec = tie.close (tie.spec (search needs) (search needs) lowest-result-requires returns returns-2)

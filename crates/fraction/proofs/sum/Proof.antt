@@ -20,12 +20,6 @@ told-b c = let g = c .good .1 .0 .1 .1 in (g .0 .1, g .1 .0 .1)
 shaped : (c : tie.Then1) → isShaped (c .before .before .args .a) && isShaped (c .before .before .args .b) ≡ true
 shaped c = sym (c .before .both-shaped .ensures) ∙ c .if1 .taken
 
-both-shaped-requires : tie.Need-both-shaped-requires
-both-shaped-requires c κs = search needs
-
-added-requires : tie.Need-added-requires
-added-requires c κs = search needs
-
 lowest-result-requires : tie.Need-lowest-result-requires
 lowest-result-requires c κs =
     let s = c .before .before .before in
@@ -44,4 +38,4 @@ returns-2 c =
     sym (of-unshaped (s .args .a) (s .args .b) (told-a s) (told-b s) _ (sym (c .before .both-shaped .ensures) ∙ c .if1 .left))
 
 pub sum-spec : {M : Type 1} → statement M
-sum-spec = tie.close (tie.spec both-shaped-requires added-requires lowest-result-requires returns returns-2)
+sum-spec = tie.close (tie.spec (search needs) (search needs) lowest-result-requires returns returns-2)

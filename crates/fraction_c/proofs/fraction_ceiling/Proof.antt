@@ -5,12 +5,6 @@ use Rattle.fraction_c.proofs.fraction_ceiling.Statement.{statement}
 use Rattle.fraction_c.proofs.fraction_ceiling.Tie as tie
 use Rattle.fraction_c.proofs.Stores.{of-one}
 
-ceiling-requires : tie.Need-ceiling-requires
-ceiling-requires c κs = search needs
-
-store-whole-requires : tie.Need-store-whole-requires
-store-whole-requires c κs = search needs
-
 returns : tie.Need-returns
 returns c =
     let p = c .before .before in
@@ -18,4 +12,4 @@ returns c =
     of-one (c .store-whole .ensures) ceilingOf (f .num) (f .den) (p .ceiling .ensures)
 
 pub fraction-ceiling-spec : {M : Type 1} → statement M
-fraction-ceiling-spec = tie.close (tie.spec ceiling-requires store-whole-requires returns)
+fraction-ceiling-spec = tie.close (tie.spec (search needs) (search needs) returns)

@@ -7,12 +7,6 @@ use Rattle.fraction_c.proofs.fraction_compare.Statement.{statement}
 use Rattle.fraction_c.proofs.fraction_compare.Tie as tie
 use Rattle.fraction_c.proofs.Stores.{of-two}
 
-compare-requires : tie.Need-compare-requires
-compare-requires c κs = search needs
-
-store-order-requires : tie.Need-store-order-requires
-store-order-requires c κs = search needs
-
 returns : tie.Need-returns
 returns c =
     let p = c .before .before in
@@ -20,4 +14,4 @@ returns c =
     of-two (c .store-order .ensures) (λ a b. signOf (compareOf a b)) (f .a-num) (f .a-den) (f .b-num) (f .b-den) (ap signOf (p .compare .ensures))
 
 pub fraction-compare-spec : {M : Type 1} → statement M
-fraction-compare-spec = tie.close (tie.spec compare-requires store-order-requires returns)
+fraction-compare-spec = tie.close (tie.spec (search needs) (search needs) returns)

@@ -5,12 +5,6 @@ use Rattle.fraction_c.proofs.fraction_floor.Statement.{statement}
 use Rattle.fraction_c.proofs.fraction_floor.Tie as tie
 use Rattle.fraction_c.proofs.Stores.{of-one}
 
-floor-requires : tie.Need-floor-requires
-floor-requires c κs = search needs
-
-store-whole-requires : tie.Need-store-whole-requires
-store-whole-requires c κs = search needs
-
 returns : tie.Need-returns
 returns c =
     let p = c .before .before in
@@ -18,4 +12,4 @@ returns c =
     of-one (c .store-whole .ensures) floorOf (f .num) (f .den) (p .floor .ensures)
 
 pub fraction-floor-spec : {M : Type 1} → statement M
-fraction-floor-spec = tie.close (tie.spec floor-requires store-whole-requires returns)
+fraction-floor-spec = tie.close (tie.spec (search needs) (search needs) returns)

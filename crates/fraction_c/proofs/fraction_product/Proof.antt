@@ -5,12 +5,6 @@ use Rattle.fraction_c.proofs.fraction_product.Statement.{statement}
 use Rattle.fraction_c.proofs.fraction_product.Tie as tie
 use Rattle.fraction_c.proofs.Stores.{of-two}
 
-product-requires : tie.Need-product-requires
-product-requires c κs = search needs
-
-store-requires : tie.Need-store-requires
-store-requires c κs = search needs
-
 returns : tie.Need-returns
 returns c =
     let p = c .before .before .before in
@@ -18,4 +12,4 @@ returns c =
     of-two (c .store .ensures) productOf (f .a-num) (f .a-den) (f .b-num) (f .b-den) (p .product .ensures)
 
 pub fraction-product-spec : {M : Type 1} → statement M
-fraction-product-spec = tie.close (tie.spec product-requires store-requires returns)
+fraction-product-spec = tie.close (tie.spec (search needs) (search needs) returns)

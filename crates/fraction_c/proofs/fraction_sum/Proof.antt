@@ -5,12 +5,6 @@ use Rattle.fraction_c.proofs.fraction_sum.Statement.{statement}
 use Rattle.fraction_c.proofs.fraction_sum.Tie as tie
 use Rattle.fraction_c.proofs.Stores.{of-two}
 
-sum-requires : tie.Need-sum-requires
-sum-requires c κs = search needs
-
-store-requires : tie.Need-store-requires
-store-requires c κs = search needs
-
 returns : tie.Need-returns
 returns c =
     let p = c .before .before .before in
@@ -18,4 +12,4 @@ returns c =
     of-two (c .store .ensures) sumOf (f .a-num) (f .a-den) (f .b-num) (f .b-den) (p .sum .ensures)
 
 pub fraction-sum-spec : {M : Type 1} → statement M
-fraction-sum-spec = tie.close (tie.spec sum-requires store-requires returns)
+fraction-sum-spec = tie.close (tie.spec (search needs) (search needs) returns)

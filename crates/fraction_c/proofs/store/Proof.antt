@@ -6,15 +6,6 @@ use Rattle.fraction_c.proofs.store.Statement.{statement}
 use Rattle.fraction_c.proofs.store.Tie as tie
 use Rattle.fraction_c.proofs.Stores.{stored, refused, operand}
 
-enum-known-answer : tie.Need-enum-known-answer
-enum-known-answer c = search needs
-
-enum-told : tie.Need-enum-told
-enum-told c = search needs
-
-enum-told-2 : tie.Need-enum-told-2
-enum-told-2 c = search needs
-
 returns : tie.Need-returns
 returns c =
     let k = c .before .before .before .answer .given in
@@ -28,5 +19,4 @@ returns-3 : tie.Need-returns-3
 returns-3 c = refused (ap arithmeticSays (c .enum-told2 .given .1))
 
 pub store-spec : {M : Type 1} → statement M
-store-spec =
-    tie.close (tie.spec enum-known-answer enum-told enum-told-2 returns returns-2 returns-3)
+store-spec = tie.close (tie.spec (search needs) (search needs) (search needs) returns returns-2 returns-3)

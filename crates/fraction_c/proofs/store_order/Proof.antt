@@ -13,18 +13,6 @@ use Rattle.fraction_c.proofs.Stores.{stored, refused}
 abbrev says : Comparison → Outcome ℤ
 says a = signOf (comparisonSays a)
 
-enum-told : tie.Need-enum-told
-enum-told c = search needs
-
-enum-told-2 : tie.Need-enum-told-2
-enum-told-2 c = search needs
-
-enum-told-3 : tie.Need-enum-told-3
-enum-told-3 c = search needs
-
-enum-told-4 : tie.Need-enum-told-4
-enum-told-4 c = search needs
-
 returns : tie.Need-returns
 returns c = stored (ap says (c .enum-told .given .1)) refl
 
@@ -38,14 +26,5 @@ returns-4 : tie.Need-returns-4
 returns-4 c = refused (ap says (c .enum-told4 .given .1))
 
 pub store-order-spec : {M : Type 1} → statement M
-store-order-spec =
-    tie.close
-    (tie.spec
-    enum-told
-    enum-told-2
-    enum-told-3
-    enum-told-4
-    returns
-    returns-2
-    returns-3
+store-order-spec = tie.close (tie.spec (search needs) (search needs) (search needs) (search needs) returns returns-2 returns-3
     returns-4)

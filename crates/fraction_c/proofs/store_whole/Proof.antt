@@ -7,12 +7,6 @@ use Rattle.fraction_c.proofs.store_whole.Statement.{statement}
 use Rattle.fraction_c.proofs.store_whole.Tie as tie
 use Rattle.fraction_c.proofs.Stores.{stored, refused}
 
-enum-known-answer : tie.Need-enum-known-answer
-enum-known-answer c = search needs
-
-enum-told : tie.Need-enum-told
-enum-told c = search needs
-
 returns : tie.Need-returns
 returns c =
     let k = c .before .answer .given in
@@ -22,4 +16,4 @@ returns-2 : tie.Need-returns-2
 returns-2 c = refused (ap roundingSays (c .enum-told .given .1))
 
 pub store-whole-spec : {M : Type 1} → statement M
-store-whole-spec = tie.close (tie.spec enum-known-answer enum-told returns returns-2)
+store-whole-spec = tie.close (tie.spec (search needs) (search needs) returns returns-2)

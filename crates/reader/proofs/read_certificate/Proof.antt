@@ -41,82 +41,19 @@ ended c =
     let l = k .clear .kept in
     reads-to-end (d .read-document .ensures (start-room (b .short) (omega (arith, b .index-cells, l .0)) (omega (arith, b .value-cells, l .1 .0)) (omega (arith, b .row-cells, l .1 .1 .0)))) (c .read-end .ensures)
 
-has-cells-requires : tie.Need-has-cells-requires
-has-cells-requires c κs = search needs
-
-same-length : tie.Need-same-length
-same-length c = search needs
-
-same-length-2 : tie.Need-same-length-2
-same-length-2 c = search needs
-
-same-length-3 : tie.Need-same-length-3
-same-length-3 c = search needs
-
 returns : tie.Need-returns
 returns c = promised (small-table (sym (c .before .has-cells .ensures) ∙ not-true _ (c .if1 .taken)))
-
-is-short-requires : tie.Need-is-short-requires
-is-short-requires c κs = search needs
-
-same-length-4 : tie.Need-same-length-4
-same-length-4 c = search needs
-
-same-length-5 : tie.Need-same-length-5
-same-length-5 c = search needs
-
-same-length-6 : tie.Need-same-length-6
-same-length-6 c = search needs
 
 returns-2 : tie.Need-returns-2
 returns-2 c =
     let i = c .before .before in
     promised (long-text (sym (i .before .has-cells .ensures) ∙ not-false _ (i .if1 .left)) (sym (c .before .is-short .ensures) ∙ not-true _ (c .if2 .taken)))
 
-clear-requires : tie.Need-clear-requires
-clear-requires c κs = search needs
-
-read-document-requires : tie.Need-read-document-requires
-read-document-requires c κs = search needs
-
-read-end-requires : tie.Need-read-end-requires
-read-end-requires c κs = search needs
-
-enum-known-s : tie.Need-enum-known-s
-enum-known-s c = search needs
-
-enum-told : tie.Need-enum-told
-enum-told c = search needs
-
-same-length-7 : tie.Need-same-length-7
-same-length-7 c = search needs
-
-same-length-8 : tie.Need-same-length-8
-same-length-8 c = search needs
-
-same-length-9 : tie.Need-same-length-9
-same-length-9 c = search needs
-
 returns-3 : tie.Need-returns-3
 returns-3 c =
     let r = c .before .before in
     let h = cleared (r) .clear .ensures in
     promised (taken-equations (begun (cleared (r))) (ended r) (c .enum-told .given .1) (h .0) (h .1 .0) (h .1 .1))
-
-clear-requires-2 : tie.Need-clear-requires-2
-clear-requires-2 c κs = search needs
-
-line-of-requires : tie.Need-line-of-requires
-line-of-requires c κs = search needs
-
-same-length-10 : tie.Need-same-length-10
-same-length-10 c = search needs
-
-same-length-11 : tie.Need-same-length-11
-same-length-11 c = search needs
-
-same-length-12 : tie.Need-same-length-12
-same-length-12 c = search needs
 
 returns-4 : tie.Need-returns-4
 returns-4 c =
@@ -131,31 +68,7 @@ returns-4 c =
     (e .1 .1 ∙ ap (λ (n : ℕ). replicate n 0) (d .read-document .kept .1 .1 .1 .0 ∙ k .clear .kept .1 .1 .0)))
 
 pub read-certificate-spec : {M : Type 1} → statement M
-read-certificate-spec =
-    tie.close
-    (tie.spec
-    has-cells-requires
-    same-length
-    same-length-2
-    same-length-3
-    returns
-    is-short-requires
-    same-length-4
-    same-length-5
-    same-length-6
-    returns-2
-    clear-requires
-    read-document-requires
-    read-end-requires
-    enum-known-s
-    enum-told
-    same-length-7
-    same-length-8
-    same-length-9
-    returns-3
-    clear-requires-2
-    line-of-requires
-    same-length-10
-    same-length-11
-    same-length-12
-    returns-4)
+read-certificate-spec = tie.close (tie.spec (search needs) (search needs) (search needs) (search needs) returns (search needs)
+    (search needs) (search needs) (search needs) returns-2 (search needs) (search needs) (search needs) (search needs)
+    (search needs) (search needs) (search needs) (search needs) returns-3 (search needs) (search needs) (search needs)
+    (search needs) (search needs) returns-4)

@@ -5,9 +5,6 @@ use Rattle.sets.proofs.Bits.{bit-single, bit-none}
 use Rattle.sets.proofs.single.Statement.{statement}
 use Rattle.sets.proofs.single.Tie as tie
 
-shl-result : tie.Need-shl-result
-shl-result c = search needs
-
 returns : tie.Need-returns
 returns c = bit-single _ (c .if1 .taken)
 
@@ -15,4 +12,4 @@ returns-2 : tie.Need-returns-2
 returns-2 c = bit-none _ (c .if1 .left)
 
 pub single-spec : {M : Type 1} → statement M
-single-spec = tie.close (tie.spec shl-result returns returns-2)
+single-spec = tie.close (tie.spec (search needs) returns returns-2)

@@ -4,20 +4,8 @@ use borrow.Author.Needs.{needs}
 use Rattle.symbol_reader.proofs.carry.Statement.{statement}
 use Rattle.symbol_reader.proofs.carry.Tie as tie
 
-enum-known-a : tie.Need-enum-known-a
-enum-known-a c = search needs
-
-enum-told : tie.Need-enum-told
-enum-told c = search needs
-
 returns : tie.Need-returns
 returns c = rw (c .enum-told .given .1) refl
-
-enum-known-s : tie.Need-enum-known-s
-enum-known-s c = search needs
-
-enum-told-2 : tie.Need-enum-told-2
-enum-told-2 c = search needs
 
 returns-2 : tie.Need-returns-2
 returns-2 c = rw (c .before .before .before .a .given .1, c .enum-told2 .given .1) refl
@@ -26,6 +14,4 @@ returns-3 : tie.Need-returns-3
 returns-3 c = rw (c .before .before .before .before .a .given .1, c .before .s .given .1) refl
 
 pub carry-spec : {M : Type 1} → statement M
-carry-spec =
-    tie.close
-    (tie.spec enum-known-a enum-told returns enum-known-s enum-told-2 returns-2 returns-3)
+carry-spec = tie.close (tie.spec (search needs) (search needs) returns (search needs) (search needs) returns-2 returns-3)

@@ -6,12 +6,6 @@ use native.Mathlib.Omega.{arith}
 use Rattle.tables.proofs.cell_at.Statement.{statement}
 use Rattle.tables.proofs.cell_at.Tie as tie
 
-mul-result : tie.Need-mul-result
-mul-result c = search needs
-
-shared-slice-read-result : tie.Need-shared-slice-read-result
-shared-slice-read-result c = search needs
-
 cast-result : tie.Need-cast-result
 cast-result c = omega (arith, c .shared-slice-known .given (c .before .before .args .i))
 
@@ -22,5 +16,4 @@ returns-2 : tie.Need-returns-2
 returns-2 c = cell-beyond _ _ (omega arith)
 
 pub cell-at-spec : {M : Type 1} → statement M
-cell-at-spec =
-    tie.close (tie.spec mul-result shared-slice-read-result cast-result returns returns-2)
+cell-at-spec = tie.close (tie.spec (search needs) (search needs) cast-result returns returns-2)

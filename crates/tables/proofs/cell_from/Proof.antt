@@ -5,18 +5,6 @@ use native.Mathlib.Omega.{arith}
 use Rattle.tables.proofs.cell_from.Statement.{statement}
 use Rattle.tables.proofs.cell_from.Tie as tie
 
-sub-if2 : tie.Need-sub-if2
-sub-if2 c = search needs
-
-add-cell-at : tie.Need-add-cell-at
-add-cell-at c = search needs
-
-cell-at-requires : tie.Need-cell-at-requires
-cell-at-requires c κs = search needs
-
-returns : tie.Need-returns
-returns c = search needs
-
 returns-2 : tie.Need-returns-2
 returns-2 c = cell-beyond _ _ (omega arith)
 
@@ -24,5 +12,4 @@ returns-3 : tie.Need-returns-3
 returns-3 c = cell-beyond _ _ (omega arith)
 
 pub cell-from-spec : {M : Type 1} → statement M
-cell-from-spec =
-    tie.close (tie.spec sub-if2 add-cell-at cell-at-requires returns returns-2 returns-3)
+cell-from-spec = tie.close (tie.spec (search needs) (search needs) (search needs) (search needs) returns-2 returns-3)

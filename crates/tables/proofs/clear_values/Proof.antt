@@ -18,18 +18,6 @@ abbrev μ-loop : tie.MeasureT-loop
 loop-holds : tie.Need-loop-holds Inv-loop μ-loop
 loop-holds c = (cleared-none (pos 0) _, refl)
 
-mul-values : tie.Need-mul-values Inv-loop μ-loop
-mul-values c = search needs
-
-slice-set-of-values : tie.Need-slice-set-of-values Inv-loop μ-loop
-slice-set-of-values c = search needs
-
-add-i : tie.Need-add-i Inv-loop μ-loop
-add-i c = search needs
-
-loop-less : tie.Need-loop-less Inv-loop μ-loop
-loop-less c = search needs
-
 loop-again : tie.Need-loop-again Inv-loop μ-loop
 loop-again c = (cleared-more (pos 0) (c .before .loop .inv .0) (omega (arith, c .before .loop .inv .1, c .loop-test .taken)), c .before .loop .inv .1)
 
@@ -40,16 +28,5 @@ returns : tie.Need-returns Inv-loop μ-loop
 returns c = cleared-all (pos 0) (c .before .loop .inv .0) (omega (arith, c .before .loop .inv .1, c .loop-test .left))
 
 pub clear-values-spec : {M : Type 1} → statement M
-clear-values-spec =
-    tie.close
-    (tie.spec
-    Inv-loop
-    μ-loop
-    loop-holds
-    mul-values
-    slice-set-of-values
-    add-i
-    loop-less
-    loop-again
-    same-length
-    returns)
+clear-values-spec = tie.close (tie.spec Inv-loop μ-loop loop-holds (search needs) (search needs) (search needs) (search needs)
+    loop-again same-length returns)

@@ -10,21 +10,6 @@ use borrow.Author.Needs.{needs}
 use Rattle.tables.proofs.entry_at.Statement.{statement}
 use Rattle.tables.proofs.entry_at.Tie as tie
 
-mul-at : tie.Need-mul-at
-mul-at c = search needs
-
-cell-from-requires : tie.Need-cell-from-requires
-cell-from-requires c κs = search needs
-
-cell-from-requires-2 : tie.Need-cell-from-requires-2
-cell-from-requires-2 c κs = search needs
-
-cell-from-requires-3 : tie.Need-cell-from-requires-3
-cell-from-requires-3 c κs = search needs
-
-cell-from-requires-4 : tie.Need-cell-from-requires-4
-cell-from-requires-4 c κs = search needs
-
 returns : tie.Need-returns
 returns c =
     let m = c .before .before .before .before in
@@ -39,12 +24,4 @@ returns c =
     }
 
 pub entry-at-spec : {M : Type 1} → statement M
-entry-at-spec =
-    tie.close
-    (tie.spec
-    mul-at
-    cell-from-requires
-    cell-from-requires-2
-    cell-from-requires-3
-    cell-from-requires-4
-    returns)
+entry-at-spec = tie.close (tie.spec (search needs) (search needs) (search needs) (search needs) (search needs) returns)

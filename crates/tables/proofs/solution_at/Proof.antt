@@ -10,12 +10,6 @@ use native.Mathlib.Omega.{arith}
 use Rattle.tables.proofs.solution_at.Statement.{statement}
 use Rattle.tables.proofs.solution_at.Tie as tie
 
-add-r : tie.Need-add-r
-add-r c = search needs
-
-entry-at-requires : tie.Need-entry-at-requires
-entry-at-requires c κs = search needs
-
 returns : tie.Need-returns
 returns c =
     let m = c .before in
@@ -25,4 +19,4 @@ returns c =
     entry-found rows r _ _ found (c .entry-at .ensures)
 
 pub solution-at-spec : {M : Type 1} → statement M
-solution-at-spec = tie.close (tie.spec add-r entry-at-requires returns)
+solution-at-spec = tie.close (tie.spec (search needs) (search needs) returns)

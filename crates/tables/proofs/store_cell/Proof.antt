@@ -9,18 +9,6 @@ use Rattle.tables.proofs.store_cell.Tie as tie
 returns : tie.Need-returns
 returns c = sym (with-none _ _ _ (c .if1 .taken))
 
-cast-table : tie.Need-cast-table
-cast-table c = search needs
-
-mul-table : tie.Need-mul-table
-mul-table c = search needs
-
-slice-write-table : tie.Need-slice-write-table
-slice-write-table c = search needs
-
-same-length : tie.Need-same-length
-same-length c = search needs
-
 returns-2 : tie.Need-returns-2
 returns-2 c = sym (with-cell _ _ _ (omega arith))
 
@@ -28,6 +16,4 @@ returns-3 : tie.Need-returns-3
 returns-3 c = sym (with-cell-beyond _ _ _ (omega arith))
 
 pub store-cell-spec : {M : Type 1} → statement M
-store-cell-spec =
-    tie.close
-    (tie.spec returns cast-table mul-table slice-write-table same-length returns-2 returns-3)
+store-cell-spec = tie.close (tie.spec returns (search needs) (search needs) (search needs) (search needs) returns-2 returns-3)

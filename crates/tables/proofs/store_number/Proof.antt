@@ -6,20 +6,8 @@ use native.Mathlib.Omega.{arith}
 use Rattle.tables.proofs.store_number.Statement.{statement}
 use Rattle.tables.proofs.store_number.Tie as tie
 
-mul-x : tie.Need-mul-x
-mul-x c = search needs
-
-slice-set-from-x : tie.Need-slice-set-from-x
-slice-set-from-x c = search needs
-
-same-length : tie.Need-same-length
-same-length c = search needs
-
-returns : tie.Need-returns
-returns c = search needs
-
 returns-2 : tie.Need-returns-2
 returns-2 c = sym (set-out _ _ _ (omega arith))
 
 pub store-number-spec : {M : Type 1} → statement M
-store-number-spec = tie.close (tie.spec mul-x slice-set-from-x same-length returns returns-2)
+store-number-spec = tie.close (tie.spec (search needs) (search needs) (search needs) (λ c. search needs) returns-2)

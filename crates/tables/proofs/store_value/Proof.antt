@@ -7,24 +7,6 @@ use native.Mathlib.Omega.{arith}
 use Rattle.tables.proofs.store_value.Statement.{statement}
 use Rattle.tables.proofs.store_value.Tie as tie
 
-mul-store-number : tie.Need-mul-store-number
-mul-store-number c = search needs
-
-store-number-requires : tie.Need-store-number-requires
-store-number-requires c κs = search needs
-
-mul-store-number-2 : tie.Need-mul-store-number-2
-mul-store-number-2 c = search needs
-
-add-store-number : tie.Need-add-store-number
-add-store-number c = search needs
-
-store-number-requires-2 : tie.Need-store-number-requires-2
-store-number-requires-2 c κs = search needs
-
-same-length : tie.Need-same-length
-same-length c = search needs
-
 returns : tie.Need-returns
 returns c =
     let m = c .before .before .before .before in
@@ -39,14 +21,5 @@ returns-2 : tie.Need-returns-2
 returns-2 c = sym (with-value-beyond _ _ _ (omega arith))
 
 pub store-value-spec : {M : Type 1} → statement M
-store-value-spec =
-    tie.close
-    (tie.spec
-    mul-store-number
-    store-number-requires
-    mul-store-number-2
-    add-store-number
-    store-number-requires-2
-    same-length
-    returns
-    returns-2)
+store-value-spec = tie.close (tie.spec (search needs) (search needs) (search needs) (search needs) (search needs) (search needs)
+    returns returns-2)

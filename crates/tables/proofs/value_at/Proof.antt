@@ -5,21 +5,6 @@ use native.Mathlib.Omega.{arith}
 use Rattle.tables.proofs.value_at.Statement.{statement}
 use Rattle.tables.proofs.value_at.Tie as tie
 
-mul-number-at : tie.Need-mul-number-at
-mul-number-at c = search needs
-
-number-at-requires : tie.Need-number-at-requires
-number-at-requires c κs = search needs
-
-mul-number-at-2 : tie.Need-mul-number-at-2
-mul-number-at-2 c = search needs
-
-add-number-at : tie.Need-add-number-at
-add-number-at c = search needs
-
-number-at-requires-2 : tie.Need-number-at-requires-2
-number-at-requires-2 c κs = search needs
-
 returns : tie.Need-returns
 returns c =
     let s = c .before .before .before .args in
@@ -29,13 +14,5 @@ returns-2 : tie.Need-returns-2
 returns-2 c = value-beyond _ _ (omega arith)
 
 pub value-at-spec : {M : Type 1} → statement M
-value-at-spec =
-    tie.close
-    (tie.spec
-    mul-number-at
-    number-at-requires
-    mul-number-at-2
-    add-number-at
-    number-at-requires-2
-    returns
+value-at-spec = tie.close (tie.spec (search needs) (search needs) (search needs) (search needs) (search needs) returns
     returns-2)

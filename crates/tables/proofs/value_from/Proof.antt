@@ -5,18 +5,6 @@ use native.Mathlib.Omega.{arith}
 use Rattle.tables.proofs.value_from.Statement.{statement}
 use Rattle.tables.proofs.value_from.Tie as tie
 
-sub-if2 : tie.Need-sub-if2
-sub-if2 c = search needs
-
-add-value-at : tie.Need-add-value-at
-add-value-at c = search needs
-
-value-at-requires : tie.Need-value-at-requires
-value-at-requires c κs = search needs
-
-returns : tie.Need-returns
-returns c = search needs
-
 returns-2 : tie.Need-returns-2
 returns-2 c = value-beyond _ _ (omega arith)
 
@@ -24,5 +12,4 @@ returns-3 : tie.Need-returns-3
 returns-3 c = value-beyond _ _ (omega arith)
 
 pub value-from-spec : {M : Type 1} → statement M
-value-from-spec =
-    tie.close (tie.spec sub-if2 add-value-at value-at-requires returns returns-2 returns-3)
+value-from-spec = tie.close (tie.spec (search needs) (search needs) (search needs) (λ c. search needs) returns-2 returns-3)

@@ -9,12 +9,6 @@ use Rattle.text.proofs.begins_token.Tie as tie
 returns : tie.Need-returns
 returns c = let a = c .before .before .args in none-past (a .text .now) (a .place) (c .if1 .taken)
 
-shared-slice-read-is-separator : tie.Need-shared-slice-read-is-separator
-shared-slice-read-is-separator c = search needs
-
-is-separator-requires : tie.Need-is-separator-requires
-is-separator-requires c κs = search needs
-
 returns-2 : tie.Need-returns-2
 returns-2 c =
     let i = c .before .before .before in
@@ -27,15 +21,6 @@ returns-3 c =
     let a = i .before .before .args in
     at-the-start (a .text .now) (a .place) (i .if1 .left) (sym (c .before .before .is-separator .ensures) ∙ c .before .if2 .left) (c .if3 .taken)
 
-sub-is-separator : tie.Need-sub-is-separator
-sub-is-separator c = search needs
-
-shared-slice-read-is-separator-2 : tie.Need-shared-slice-read-is-separator-2
-shared-slice-read-is-separator-2 c = search needs
-
-is-separator-requires-2 : tie.Need-is-separator-requires-2
-is-separator-requires-2 c κs = search needs
-
 returns-4 : tie.Need-returns-4
 returns-4 c =
     let z = c .before .before in
@@ -45,15 +30,5 @@ returns-4 c =
     ∙ by-the-one-before (a .text .now) (a .place) (i .if1 .left) (sym (z .before .before .is-separator .ensures) ∙ z .before .if2 .left) (z .if3 .left)
 
 pub begins-token-spec : {M : Type 1} → statement M
-begins-token-spec =
-    tie.close
-    (tie.spec
-    returns
-    shared-slice-read-is-separator
-    is-separator-requires
-    returns-2
-    returns-3
-    sub-is-separator
-    shared-slice-read-is-separator-2
-    is-separator-requires-2
-    returns-4)
+begins-token-spec = tie.close (tie.spec returns (search needs) (search needs) returns-2 returns-3 (search needs) (search needs)
+    (search needs) returns-4)

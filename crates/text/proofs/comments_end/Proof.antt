@@ -28,16 +28,10 @@ this-line c = record { inside = c .before .before .before .loop-test .taken; per
 loop-holds : tie.Need-loop-holds Inv-loop μ-loop
 loop-holds c = comment-first (c .before .args .text .now)
 
-shared-slice-read-if1 : tie.Need-shared-slice-read-if1 Inv-loop μ-loop
-shared-slice-read-if1 c = search needs
-
 returns : tie.Need-returns Inv-loop μ-loop
 returns c =
     let l = c .before .before .before in
     omega (arith, l .loop .inv, comment-none (l .before .before .args .text .now) (l .loop .at) (c .before .before .loop-test .taken) (c .if1 .taken))
-
-run-end-requires : tie.Need-run-end-requires Inv-loop μ-loop
-run-end-requires c κs = search needs
 
 returns-2 : tie.Need-returns-2 Inv-loop μ-loop
 returns-2 c = sym (comment-last (this-line (c .before)) (c .if2 .taken)) ∙ at-loop (c .before) .loop .inv
@@ -57,17 +51,5 @@ returns-3 c =
     omega (arith, l .loop .inv, comment-past (l .before .before .args .text .now) (l .loop .at) (c .loop-test .left))
 
 pub comments-end-spec : {M : Type 1} → statement M
-comments-end-spec =
-    tie.close
-    (tie.spec
-    Inv-loop
-    μ-loop
-    loop-holds
-    shared-slice-read-if1
-    returns
-    run-end-requires
-    returns-2
-    add-at
-    loop-less
-    loop-again
-    returns-3)
+comments-end-spec = tie.close (tie.spec Inv-loop μ-loop loop-holds (search needs) returns (search needs) returns-2 add-at
+    loop-less loop-again returns-3)

@@ -8,21 +8,6 @@ use Rattle.text.proofs.Tests.{of-kind}
 use Rattle.text.proofs.is_of.Statement.{statement}
 use Rattle.text.proofs.is_of.Tie as tie
 
-enum-told : tie.Need-enum-told
-enum-told c = search needs
-
-is-separator-requires : tie.Need-is-separator-requires
-is-separator-requires c κs = search needs
-
-enum-told-2 : tie.Need-enum-told-2
-enum-told-2 c = search needs
-
-is-separator-requires-2 : tie.Need-is-separator-requires-2
-is-separator-requires-2 c κs = search needs
-
-enum-told-3 : tie.Need-enum-told-3
-enum-told-3 c = search needs
-
 returns : tie.Need-returns
 returns c = of-kind kind.Gap _ (c .before .enum-told .given .1) (c .is-separator .ensures)
 
@@ -33,14 +18,5 @@ returns-3 : tie.Need-returns-3
 returns-3 c = of-kind kind.Line _ (c .enum-told3 .given .1) refl
 
 pub is-of-spec : {M : Type 1} → statement M
-is-of-spec =
-    tie.close
-    (tie.spec
-    enum-told
-    is-separator-requires
-    enum-told-2
-    is-separator-requires-2
-    enum-told-3
-    returns
-    returns-2
+is-of-spec = tie.close (tie.spec (search needs) (search needs) (search needs) (search needs) (search needs) returns returns-2
     returns-3)

@@ -6,15 +6,9 @@ use Rattle.text.specs.Bytes.{Bytes, same}
 use Rattle.text.proofs.is_word.Statement.{statement}
 use Rattle.text.proofs.is_word.Tie as tie
 
-part-requires : tie.Need-part-requires
-part-requires c κs = search needs
-
-same-bytes-requires : tie.Need-same-bytes-requires
-same-bytes-requires c κs = search needs
-
 returns : tie.Need-returns
 returns c =
     c .same-bytes .ensures ∙ ap (λ (w : Bytes). same w (c .before .before .before .before .args .word .now)) (c .before .part .ensures)
 
 pub is-word-spec : {M : Type 1} → statement M
-is-word-spec = tie.close (tie.spec part-requires same-bytes-requires returns)
+is-word-spec = tie.close (tie.spec (search needs) (search needs) returns)

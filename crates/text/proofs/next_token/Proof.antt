@@ -5,12 +5,6 @@ use Rattle.text.proofs.Scanning.{scans-token, scans-end}
 use Rattle.text.proofs.next_token.Statement.{statement}
 use Rattle.text.proofs.next_token.Tie as tie
 
-run-end-requires : tie.Need-run-end-requires
-run-end-requires c κs = search needs
-
-run-end-requires-2 : tie.Need-run-end-requires-2
-run-end-requires-2 c κs = search needs
-
 returns : tie.Need-returns
 returns c =
     let a = c .before .before .before .before .args in
@@ -22,4 +16,4 @@ returns-2 c =
     scans-end (a .text .now) (a .at) (c .before .run-end .ensures) (c .if1 .left)
 
 pub next-token-spec : {M : Type 1} → statement M
-next-token-spec = tie.close (tie.spec run-end-requires run-end-requires-2 returns returns-2)
+next-token-spec = tie.close (tie.spec (search needs) (search needs) returns returns-2)

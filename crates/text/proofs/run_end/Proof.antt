@@ -18,21 +18,6 @@ Inv-loop text at kind i₀ i = i + leading (isOf kind) (drop i text) ≡ at + le
 abbrev μ-loop : tie.MeasureT-loop
 μ-loop text at kind i₀ i = length text - i
 
-loop-holds : tie.Need-loop-holds Inv-loop μ-loop
-loop-holds c = search needs
-
-shared-slice-read-is-of : tie.Need-shared-slice-read-is-of Inv-loop μ-loop
-shared-slice-read-is-of c = search needs
-
-is-of-requires : tie.Need-is-of-requires Inv-loop μ-loop
-is-of-requires c κs = search needs
-
-add-i : tie.Need-add-i Inv-loop μ-loop
-add-i c = search needs
-
-loop-less : tie.Need-loop-less Inv-loop μ-loop
-loop-less c = search needs
-
 loop-again : tie.Need-loop-again Inv-loop μ-loop
 loop-again c =
     let l = c .before .before .before in
@@ -51,16 +36,5 @@ returns-2 c =
     omega (arith, leading-past (isOf (a .kind)) (a .text .now) (c .before .loop .i) (c .loop-test .left))
 
 pub run-end-spec : {M : Type 1} → statement M
-run-end-spec =
-    tie.close
-    (tie.spec
-    Inv-loop
-    μ-loop
-    loop-holds
-    shared-slice-read-is-of
-    is-of-requires
-    add-i
-    loop-less
-    loop-again
-    returns
-    returns-2)
+run-end-spec = tie.close (tie.spec Inv-loop μ-loop (search needs) (search needs) (search needs) (search needs) (search needs)
+    loop-again returns returns-2)

@@ -22,23 +22,11 @@ returns c = sym (same-longer (c .before .args .a .now) (c .before .args .b .now)
 loop-holds : tie.Need-loop-holds Inv-loop μ-loop
 loop-holds c = (c .if1 .left, omega arith, refl)
 
-shared-slice-read-if2 : tie.Need-shared-slice-read-if2 Inv-loop μ-loop
-shared-slice-read-if2 c = search needs
-
-shared-slice-read-if2-2 : tie.Need-shared-slice-read-if2-2 Inv-loop μ-loop
-shared-slice-read-if2-2 c = search needs
-
 returns-2 : tie.Need-returns-2 Inv-loop μ-loop
 returns-2 c =
     let l = c .before .before .before .before in
     let s = l .before .before .args in
     sym (same-not (s .a .now) (s .b .now) (l .loop .i) (omega arith) (omega arith) (c .if2 .taken)) ∙ l .loop .inv .2
-
-add-i : tie.Need-add-i Inv-loop μ-loop
-add-i c = search needs
-
-loop-less : tie.Need-loop-less Inv-loop μ-loop
-loop-less c = search needs
 
 loop-again : tie.Need-loop-again Inv-loop μ-loop
 loop-again c =
@@ -53,17 +41,5 @@ returns-3 c =
     sym (same-all (s .a .now) (s .b .now) (l .loop .i) (omega arith) (omega arith)) ∙ l .loop .inv .2
 
 pub same-bytes-spec : {M : Type 1} → statement M
-same-bytes-spec =
-    tie.close
-    (tie.spec
-    Inv-loop
-    μ-loop
-    returns
-    loop-holds
-    shared-slice-read-if2
-    shared-slice-read-if2-2
-    returns-2
-    add-i
-    loop-less
-    loop-again
-    returns-3)
+same-bytes-spec = tie.close (tie.spec Inv-loop μ-loop returns loop-holds (search needs) (search needs) returns-2 (search needs)
+    (search needs) loop-again returns-3)

@@ -20,29 +20,8 @@ token-inside c =
     let part = drop (a .place) (a .text .now) in
     omega (arith, c .run-end .ensures, begun-inside (a .text .now) (a .place) b, leading-le isTokenByte part, length-drop (a .place) (a .text .now))
 
-begins-token-requires : tie.Need-begins-token-requires
-begins-token-requires c κs = search needs
-
-run-end-requires : tie.Need-run-end-requires
-run-end-requires c κs = search needs
-
-sub-result : tie.Need-sub-result
-sub-result c = search needs
-
-part-result-start : tie.Need-part-result-start
-part-result-start c = search needs
-
 part-result-end : tie.Need-part-result-end
 part-result-end c = token-inside c
-
-sub-result-2 : tie.Need-sub-result-2
-sub-result-2 c = search needs
-
-part-result-start-2 : tie.Need-part-result-start-2
-part-result-start-2 c = search needs
-
-part-result-end-2 : tie.Need-part-result-end-2
-part-result-end-2 c = search needs
 
 returns : tie.Need-returns
 returns c =
@@ -63,16 +42,5 @@ returns-2 c =
     part-at n n from to (omega arith) (omega arith) refl (omega arith) refl
 
 pub show-token-spec : {M : Type 1} → statement M
-show-token-spec =
-    tie.close
-    (tie.spec
-    begins-token-requires
-    run-end-requires
-    sub-result
-    part-result-start
-    part-result-end
-    sub-result-2
-    part-result-start-2
-    part-result-end-2
-    returns
-    returns-2)
+show-token-spec = tie.close (tie.spec (search needs) (search needs) (search needs) (search needs) part-result-end (search needs)
+    (search needs) (search needs) returns returns-2)

@@ -25,49 +25,12 @@ token-found c =
     let n = c .before .before .before .before in
     found (n .before .before .before .before .args .text .now) (n .before .before .loop .next) (sym (n .next-token .ensures) ∙ c .before .before .from .given .1)
 
-loop-holds : tie.Need-loop-holds Inv-loop μ-loop
-loop-holds c = search needs
-
-next-token-requires : tie.Need-next-token-requires Inv-loop μ-loop
-next-token-requires c κs = search needs
-
-enum-known-from : tie.Need-enum-known-from Inv-loop μ-loop
-enum-known-from c = search needs
-
-token-requires : tie.Need-token-requires Inv-loop μ-loop
-token-requires c κs = search needs
-
 add-next : tie.Need-add-next Inv-loop μ-loop
 add-next c = omega (arith, token-found c .inside)
 
 loop-less : tie.Need-loop-less Inv-loop μ-loop
 loop-less c = omega (arith, token-found c .ahead, token-found c .not-empty, token-found c .inside)
 
-loop-again : tie.Need-loop-again Inv-loop μ-loop
-loop-again c = search needs
-
-enum-told : tie.Need-enum-told Inv-loop μ-loop
-enum-told c = search needs
-
-returns : tie.Need-returns Inv-loop μ-loop
-returns c = search needs
-
-returns-2 : tie.Need-returns-2 Inv-loop μ-loop
-returns-2 c = search needs
-
 pub tokens-from-spec : {M : Type 1} → statement M
-tokens-from-spec =
-    tie.close
-    (tie.spec
-    Inv-loop
-    μ-loop
-    loop-holds
-    next-token-requires
-    enum-known-from
-    token-requires
-    add-next
-    loop-less
-    loop-again
-    enum-told
-    returns
-    returns-2)
+tokens-from-spec = tie.close (tie.spec Inv-loop μ-loop (search needs) (search needs) (search needs) (search needs) add-next
+    loop-less (search needs) (search needs) (search needs) (search needs))

@@ -18,5 +18,4 @@ returns-2 : tie.Need-returns-2
 returns-2 c = rw (ne-eqb _ 46 (c .if1 .left))
 
 pub after-point-spec : {M : Type 1} → statement M
-after-point-spec =
-    tie.close (tie.spec shared-slice-read-if1 add-result returns returns-2)
+after-point-spec = tie.close (tie.spec shared-slice-read-if1 add-result returns returns-2)

@@ -116,9 +116,6 @@ sub-power-of-ten-2 c =
     let p = at-run (c .before .before .before) in
     omega (arith, grown p .trails, places p)
 
-power-of-ten-requires : tie.Need-power-of-ten-requires
-power-of-ten-requires c κs = search needs
-
 returns-4 : tie.Need-returns-4
 returns-4 c =
     let at-if3 = c .before .before in
@@ -130,18 +127,5 @@ returns-4 c =
     )
 
 pub decimal-ratio-spec : {M : Type 1} → statement M
-decimal-ratio-spec =
-    tie.close
-    (tie.spec
-    after-point-requires
-    counted-requires
-    read-run-requires
-    add-if1
-    returns
-    extended-ratio-requires
-    returns-2
-    returns-3
-    sub-power-of-ten
-    sub-power-of-ten-2
-    power-of-ten-requires
-    returns-4)
+decimal-ratio-spec = tie.close (tie.spec after-point-requires counted-requires read-run-requires add-if1 returns
+    extended-ratio-requires returns-2 returns-3 sub-power-of-ten sub-power-of-ten-2 (search needs) returns-4)

@@ -20,9 +20,6 @@ use Rattle.value.proofs.extended_ratio.Tie as tie
 shared-slice-read-is-letter : tie.Need-shared-slice-read-is-letter
 shared-slice-read-is-letter c = c .before .before .pre .2
 
-is-letter-requires : tie.Need-is-letter-requires
-is-letter-requires c κs = search needs
-
 read-on-requires : tie.Need-read-on-requires
 read-on-requires c κs =
     let h = c .before .before .before .before .pre in
@@ -58,14 +55,5 @@ returns-2 c =
     (tt, λ s w after g p. sym (misspelled-exponent s w after _ (letter-missing (a .token .now) (a .end) (at-start .pre .2) (sym (c .before .is-letter .ensures) ∙ c .if1 .left))))
 
 pub extended-ratio-spec : {M : Type 1} → statement M
-extended-ratio-spec =
-    tie.close
-    (tie.spec
-    shared-slice-read-is-letter
-    is-letter-requires
-    read-on-requires
-    sub-scaled-ratio
-    add-scaled-ratio
-    scaled-ratio-requires
-    returns
-    returns-2)
+extended-ratio-spec = tie.close (tie.spec shared-slice-read-is-letter (search needs) read-on-requires sub-scaled-ratio
+    add-scaled-ratio scaled-ratio-requires returns returns-2)

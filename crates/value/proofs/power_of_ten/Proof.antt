@@ -25,12 +25,6 @@ mul-p c =
     let i = c .before .loop .i in
     record { fits = omega (arith, ten-next i, ten-fits (i + 1) (omega arith)) }
 
-add-i : tie.Need-add-i Inv-loop μ-loop
-add-i c = omega arith
-
-loop-less : tie.Need-loop-less Inv-loop μ-loop
-loop-less c = omega arith
-
 loop-again : tie.Need-loop-again Inv-loop μ-loop
 loop-again c = (omega arith, omega (arith, ten-next (c .before .loop .i)))
 
@@ -40,6 +34,5 @@ returns-2 c =
     l .inv .1 ∙ ap (λ (n : ℕ). 10 ^ n) (omega arith) ∙ sym (power-within (c .before .before .before .args .k) (omega arith))
 
 pub power-of-ten-spec : {M : Type 1} → statement M
-power-of-ten-spec =
-    tie.close
-    (tie.spec Inv-loop μ-loop returns loop-holds mul-p add-i loop-less loop-again returns-2)
+power-of-ten-spec = tie.close (tie.spec Inv-loop μ-loop returns loop-holds mul-p (λ c. omega arith) (λ c. omega arith)
+    loop-again returns-2)

@@ -13,17 +13,8 @@ use Rattle.value.proofs.Outcomes.{slash-misspelled, slash-zero, slash-w
 use Rattle.value.proofs.quotient_ratio.Statement.{statement}
 use Rattle.value.proofs.quotient_ratio.Tie as tie
 
-read-whole-requires : tie.Need-read-whole-requires
-read-whole-requires c κs = search needs
-
 ended-requires : tie.Need-ended-requires
 ended-requires c κs = c .read-whole .ensures .next-is
-
-enum-known-d : tie.Need-enum-known-d
-enum-known-d c = search needs
-
-enum-told : tie.Need-enum-told
-enum-told c = search needs
 
 returns : tie.Need-returns
 returns c =
@@ -75,15 +66,5 @@ returns-5 c =
     (slash-positive (after p) (digits p) (stands p) (at-if1 .if1 .left) (numeral p) (c .if3 .left), λ s w h. sym (slash-narrow s w _ h (after p) (numeral p) (digits p) (stands p) (at-if1 .if1 .left) (at-if2 .if2 .left) (c .if3 .left)))
 
 pub quotient-ratio-spec : {M : Type 1} → statement M
-quotient-ratio-spec =
-    tie.close
-    (tie.spec
-    read-whole-requires
-    ended-requires
-    enum-known-d
-    enum-told
-    returns
-    returns-2
-    returns-3
-    returns-4
-    returns-5)
+quotient-ratio-spec = tie.close (tie.spec (search needs) ended-requires (search needs) (search needs) returns returns-2
+    returns-3 returns-4 returns-5)

@@ -9,9 +9,6 @@ use Rattle.value.proofs.Runs.{read-short, continued-zeros, continued-di
 use Rattle.value.proofs.read_on.Statement.{statement}
 use Rattle.value.proofs.read_on.Tie as tie
 
-read-significant-requires : tie.Need-read-significant-requires
-read-significant-requires c κs = search needs
-
 returns : tie.Need-returns
 returns c =
     let at-if1 = c .before .before in
@@ -38,5 +35,4 @@ returns-2 c =
     }
 
 pub read-on-spec : {M : Type 1} → statement M
-read-on-spec =
-    tie.close (tie.spec read-significant-requires returns read-run-requires returns-2)
+read-on-spec = tie.close (tie.spec (search needs) returns read-run-requires returns-2)

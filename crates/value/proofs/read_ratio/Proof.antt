@@ -12,9 +12,6 @@ use Rattle.value.proofs.Tokens.{no-digits, no-tail, tail-from, with-tai
 use Rattle.value.proofs.read_ratio.Statement.{statement}
 use Rattle.value.proofs.read_ratio.Tie as tie
 
-read-significant-requires : tie.Need-read-significant-requires
-read-significant-requires c κs = search needs
-
 -- the first digits
 module _ (c : tie.After-digits) where
   abbrev at-run : tie.After-read-significant
@@ -37,9 +34,6 @@ counted-requires c κs =
     let p = c .before .before in
     (omega (arith, short p), at-run p .read-significant .ensures .bounded .small)
 
-whole-ratio-requires : tie.Need-whole-ratio-requires
-whole-ratio-requires c κs = search needs
-
 returns-2 : tie.Need-returns-2
 returns-2 c =
     let at-if1 = c .before .before .before in
@@ -51,19 +45,10 @@ returns-2 c =
           ∙ ap outcomeOf (sym (no-tail s (a .token .now) (a .from) _ (at-run p .read-significant .ensures .next-is) (at-if1 .if1 .left) (c .before .before .if2 .taken))),
     )
 
-shared-slice-read-if3 : tie.Need-shared-slice-read-if3
-shared-slice-read-if3 c = search needs
-
 counted-requires-2 : tie.Need-counted-requires-2
 counted-requires-2 c κs =
     let p = c .before .before .before .before in
     (omega (arith, short p), at-run p .read-significant .ensures .bounded .small)
-
-add-quotient-ratio : tie.Need-add-quotient-ratio
-add-quotient-ratio c = omega arith
-
-quotient-ratio-requires : tie.Need-quotient-ratio-requires
-quotient-ratio-requires c κs = search needs
 
 returns-3 : tie.Need-returns-3
 returns-3 c =
@@ -94,18 +79,5 @@ returns-4 c =
     )
 
 pub read-ratio-spec : {M : Type 1} → statement M
-read-ratio-spec =
-    tie.close
-    (tie.spec
-    read-significant-requires
-    returns
-    counted-requires
-    whole-ratio-requires
-    returns-2
-    shared-slice-read-if3
-    counted-requires-2
-    add-quotient-ratio
-    quotient-ratio-requires
-    returns-3
-    decimal-ratio-requires
-    returns-4)
+read-ratio-spec = tie.close (tie.spec (search needs) returns counted-requires (search needs) returns-2 (search needs)
+    counted-requires-2 (λ c. omega arith) (search needs) returns-3 decimal-ratio-requires returns-4)

@@ -21,12 +21,6 @@ abbrev μ-loop : tie.MeasureT-loop
 loop-holds : tie.Need-loop-holds Inv-loop μ-loop
 loop-holds c = reading-starts _ _ _ (c .before .pre)
 
-shared-slice-read-b : tie.Need-shared-slice-read-b Inv-loop μ-loop
-shared-slice-read-b c = omega arith
-
-is-digit-requires : tie.Need-is-digit-requires Inv-loop μ-loop
-is-digit-requires c κs = search needs
-
 -- the byte is a digit
 module _ (c : tie.Then1 Inv-loop μ-loop) where
   abbrev at-loop : tie.At-loop Inv-loop μ-loop
@@ -46,12 +40,6 @@ with-requires c κs =
     let h = at-loop c .loop .inv .bounded in
     (omega (arith, h .short), h .small, omega (arith, digit-bounds _ (is-digit c) .1))
 
-add-at : tie.Need-add-at Inv-loop μ-loop
-add-at c = omega arith
-
-loop-less : tie.Need-loop-less Inv-loop μ-loop
-loop-less c = omega arith
-
 loop-again : tie.Need-loop-again Inv-loop μ-loop
 loop-again c =
     let l = at-loop (c .before) in
@@ -66,19 +54,5 @@ returns-2 : tie.Need-returns-2 Inv-loop μ-loop
 returns-2 c = reading-ends _ _ _ _ _ (c .before .loop .inv) (stops-past _ _ (c .loop-test .left))
 
 pub read-run-spec : {M : Type 1} → statement M
-read-run-spec =
-    tie.close
-    (tie.spec
-    Inv-loop
-    μ-loop
-    loop-holds
-    shared-slice-read-b
-    is-digit-requires
-    sub-with
-    cast-with
-    with-requires
-    add-at
-    loop-less
-    loop-again
-    returns
-    returns-2)
+read-run-spec = tie.close (tie.spec Inv-loop μ-loop loop-holds (λ c. omega arith) (search needs) sub-with cast-with
+    with-requires (λ c. omega arith) (λ c. omega arith) loop-again returns returns-2)

@@ -10,12 +10,6 @@ use Rattle.value.proofs.Runs.{significant-read}
 use Rattle.value.proofs.read_significant.Statement.{statement}
 use Rattle.value.proofs.read_significant.Tie as tie
 
-skip-zeros-requires : tie.Need-skip-zeros-requires
-skip-zeros-requires c κs = search needs
-
-none-requires : tie.Need-none-requires
-none-requires c κs = search needs
-
 read-run-requires : tie.Need-read-run-requires
 read-run-requires c κs = subst (Bounded _) (sym (c .none .ensures)) (record { short = omega arith; small = omega arith })
 
@@ -28,5 +22,4 @@ returns c =
     (subst (λ (d : Digits). RunRead (drop first (a .token .now)) first d (c .read-run .result)) (c .before .none .ensures) (c .read-run .ensures))
 
 pub read-significant-spec : {M : Type 1} → statement M
-read-significant-spec =
-    tie.close (tie.spec skip-zeros-requires none-requires read-run-requires returns)
+read-significant-spec = tie.close (tie.spec (search needs) (search needs) read-run-requires returns)

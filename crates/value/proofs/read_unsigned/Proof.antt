@@ -6,20 +6,8 @@ use Rattle.value.specs.Runs.{ratioSays, PositiveRatio}
 use Rattle.value.proofs.read_unsigned.Statement.{statement}
 use Rattle.value.proofs.read_unsigned.Tie as tie
 
-read-ratio-requires : tie.Need-read-ratio-requires
-read-ratio-requires c κs = search needs
-
-enum-known-ratio : tie.Need-enum-known-ratio
-enum-known-ratio c = search needs
-
 reduce-requires : tie.Need-reduce-requires
 reduce-requires c κs = subst PositiveRatio (c .before .ratio .given .1) (c .before .before .before .read-ratio .ensures .0)
-
-enum-told : tie.Need-enum-told
-enum-told c = search needs
-
-enum-told-2 : tie.Need-enum-told-2
-enum-told-2 c = search needs
 
 returns : tie.Need-returns
 returns c =
@@ -37,14 +25,5 @@ returns-3 c =
     ap (ratioSays _) (sym (c .enum-told2 .given .1)) ∙ at-read .read-ratio .ensures .1 _
 
 pub read-unsigned-spec : {M : Type 1} → statement M
-read-unsigned-spec =
-    tie.close
-    (tie.spec
-    read-ratio-requires
-    enum-known-ratio
-    reduce-requires
-    enum-told
-    enum-told-2
-    returns
-    returns-2
-    returns-3)
+read-unsigned-spec = tie.close (tie.spec (search needs) (search needs) reduce-requires (search needs) (search needs) returns
+    returns-2 returns-3)

@@ -18,15 +18,6 @@ as-read token o e = subst (ValueRead token) e (value-read token)
 returns : tie.Need-returns
 returns c = as-read _ _ (read-empty _ (c .if1 .taken))
 
-shared-slice-read-if2 : tie.Need-shared-slice-read-if2
-shared-slice-read-if2 c = search needs
-
-read-unsigned-requires : tie.Need-read-unsigned-requires
-read-unsigned-requires c κs = search needs
-
-read-unsigned-requires-2 : tie.Need-read-unsigned-requires-2
-read-unsigned-requires-2 c κs = search needs
-
 returns-2 : tie.Need-returns-2
 returns-2 c = as-read _ _ (read-minus _ (c .before .before .before .if1 .left) (c .before .if2 .taken) ∙ sym (c .read-unsigned .ensures))
 
@@ -34,12 +25,4 @@ returns-3 : tie.Need-returns-3
 returns-3 c = as-read _ _ (read-plain _ (c .before .before .before .if1 .left) (c .before .if2 .left) ∙ sym (c .read-unsigned2 .ensures))
 
 pub read-value-spec : {M : Type 1} → statement M
-read-value-spec =
-    tie.close
-    (tie.spec
-    returns
-    shared-slice-read-if2
-    read-unsigned-requires
-    read-unsigned-requires-2
-    returns-2
-    returns-3)
+read-value-spec = tie.close (tie.spec returns (search needs) (search needs) (search needs) returns-2 returns-3)

@@ -6,9 +6,6 @@ use Rattle.value.proofs.Runs.{read-short, whole-read}
 use Rattle.value.proofs.read_whole.Statement.{statement}
 use Rattle.value.proofs.read_whole.Tie as tie
 
-read-significant-requires : tie.Need-read-significant-requires
-read-significant-requires c κs = search needs
-
 counted-requires : tie.Need-counted-requires
 counted-requires c κs =
     let h = c .before .read-significant .ensures in
@@ -19,5 +16,4 @@ returns : tie.Need-returns
 returns c = whole-read _ _ _ (c .before .before .read-significant .ensures) _ (c .counted .ensures)
 
 pub read-whole-spec : {M : Type 1} → statement M
-read-whole-spec =
-    tie.close (tie.spec read-significant-requires counted-requires returns)
+read-whole-spec = tie.close (tie.spec (search needs) counted-requires returns)

@@ -31,12 +31,6 @@ refused (Value f) (inr e) = absurd (omega (arith, e))
 refused NotAFraction h = (4, refl)
 refused TooWide h = (12, refl)
 
-reduced-requires : tie.Need-reduced-requires
-reduced-requires c κs = search needs
-
-enum-known-a : tie.Need-enum-known-a
-enum-known-a c = search needs
-
 returns : tie.Need-returns
 returns c =
     let n = refused (c .before .reduced .result) (c .match .keys2) in
@@ -48,4 +42,4 @@ returns-2 c =
     sym (narrowed-gives _ _ (sym (reduced-is r) ∙ ap arithmeticSays (c .before .a .given .1)))
 
 pub reduce-spec : {M : Type 1} → statement M
-reduce-spec = tie.close (tie.spec reduced-requires enum-known-a returns returns-2)
+reduce-spec = tie.close (tie.spec (search needs) (search needs) returns returns-2)

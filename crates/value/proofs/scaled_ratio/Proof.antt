@@ -12,15 +12,6 @@ use Rattle.value.proofs.Scaled.{misspelled-exponent, first-digit, scale
 use Rattle.value.proofs.scaled_ratio.Statement.{statement}
 use Rattle.value.proofs.scaled_ratio.Tie as tie
 
-read-exponent-requires : tie.Need-read-exponent-requires
-read-exponent-requires c κs = search needs
-
-enum-known-minus : tie.Need-enum-known-minus
-enum-known-minus c = search needs
-
-enum-told : tie.Need-enum-told
-enum-told c = search needs
-
 returns : tie.Need-returns
 returns c =
     let at-read = c .before .before in
@@ -41,9 +32,6 @@ module _ (c : tie.After-minus) where
 
   exponent : ExponentIs after-letter (c .minus .given .0 .0) (c .minus .given .0 .1 .0)
   exponent = subst (ExponentRead after-letter) (c .minus .given .1) (at-read .read-exponent .ensures)
-
-whole-ratio-requires : tie.Need-whole-ratio-requires
-whole-ratio-requires c κs = search needs
 
 returns-2 : tie.Need-returns-2
 returns-2 c =
@@ -78,16 +66,5 @@ returns-4 c =
     )
 
 pub scaled-ratio-spec : {M : Type 1} → statement M
-scaled-ratio-spec =
-    tie.close
-    (tie.spec
-    read-exponent-requires
-    enum-known-minus
-    enum-told
-    returns
-    whole-ratio-requires
-    returns-2
-    returns-3
-    power-of-requires
-    times-power-requires
-    returns-4)
+scaled-ratio-spec = tie.close (tie.spec (search needs) (search needs) (search needs) returns (search needs) returns-2 returns-3
+    power-of-requires times-power-requires returns-4)

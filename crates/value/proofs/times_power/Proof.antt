@@ -9,26 +9,11 @@ use Rattle.value.proofs.Scaled.{times-up, down-positive, times-down, ti
 use Rattle.value.proofs.times_power.Statement.{statement}
 use Rattle.value.proofs.times_power.Tie as tie
 
-enum-known-x : tie.Need-enum-known-x
-enum-known-x c = search needs
-
 appended-requires : tie.Need-appended-requires
 appended-requires c κs =
     let h = c .before .before .before .pre in
     let k = subst (PowerIs (h .2 .0)) (c .before .x .given .1) (h .2 .1) .0 in
     (omega (arith, h .0, k), h .1, ten-positive _)
-
-whole-ratio-requires : tie.Need-whole-ratio-requires
-whole-ratio-requires c κs = search needs
-
-enum-known-x-2 : tie.Need-enum-known-x-2
-enum-known-x-2 c = search needs
-
-power-of-ten-requires : tie.Need-power-of-ten-requires
-power-of-ten-requires c κs = search needs
-
-enum-told : tie.Need-enum-told
-enum-told c = search needs
 
 returns : tie.Need-returns
 returns c =
@@ -57,15 +42,5 @@ returns-3 c =
     (tt, λ great z h s. sym (times-outside s (a .digits .number) z (subst (PowerIs z) (c .enum-told .given .1) h)))
 
 pub times-power-spec : {M : Type 1} → statement M
-times-power-spec =
-    tie.close
-    (tie.spec
-    enum-known-x
-    appended-requires
-    whole-ratio-requires
-    enum-known-x-2
-    power-of-ten-requires
-    enum-told
-    returns
-    returns-2
-    returns-3)
+times-power-spec = tie.close (tie.spec (search needs) appended-requires (search needs) (search needs) (search needs)
+    (search needs) returns returns-2 returns-3)

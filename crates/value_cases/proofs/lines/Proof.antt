@@ -13,61 +13,6 @@ Inv-loop text at₀ at = Unit {0}
 abbrev μ-loop : tie.MeasureT-loop
 μ-loop text at₀ at = length text - at
 
-loop-holds : tie.Need-loop-holds Inv-loop μ-loop
-loop-holds c = search needs
-
-line-end-requires : tie.Need-line-end-requires Inv-loop μ-loop
-line-end-requires c κs = search needs
-
-sub-case : tie.Need-sub-case Inv-loop μ-loop
-sub-case c = search needs
-
-part-case-start : tie.Need-part-case-start Inv-loop μ-loop
-part-case-start c = search needs
-
-part-case-end : tie.Need-part-case-end Inv-loop μ-loop
-part-case-end c = search needs
-
-sub-case-2 : tie.Need-sub-case-2 Inv-loop μ-loop
-sub-case-2 c = search needs
-
-part-case-start-2 : tie.Need-part-case-start-2 Inv-loop μ-loop
-part-case-start-2 c = search needs
-
-part-case-end-2 : tie.Need-part-case-end-2 Inv-loop μ-loop
-part-case-end-2 c = search needs
-
-case-requires : tie.Need-case-requires Inv-loop μ-loop
-case-requires c κs = search needs
-
-add-at : tie.Need-add-at Inv-loop μ-loop
-add-at c = search needs
-
-loop-less : tie.Need-loop-less Inv-loop μ-loop
-loop-less c = search needs
-
-loop-again : tie.Need-loop-again Inv-loop μ-loop
-loop-again c = search needs
-
-returns : tie.Need-returns Inv-loop μ-loop
-returns c = search needs
-
 pub lines-spec : {M : Type 1} → statement M
-lines-spec =
-    tie.close
-    (tie.spec
-    Inv-loop
-    μ-loop
-    loop-holds
-    line-end-requires
-    sub-case
-    part-case-start
-    part-case-end
-    sub-case-2
-    part-case-start-2
-    part-case-end-2
-    case-requires
-    add-at
-    loop-less
-    loop-again
-    returns)
+lines-spec = tie.close (tie.spec Inv-loop μ-loop (search needs) (search needs) (search needs) (search needs) (search needs)
+    (search needs) (search needs) (search needs) (search needs) (search needs) (search needs) (search needs) (search needs))

@@ -19,12 +19,6 @@ small x f = omega (arith, natAbs-small x f)
 cast-w : tie.Need-cast-w
 cast-w c = search (needs, widen)
 
-slice-aggregate-put : tie.Need-slice-aggregate-put
-slice-aggregate-put c = search needs
-
-put-requires : tie.Need-put-requires
-put-requires c κs = search needs
-
 sub-print-decimal : tie.Need-sub-print-decimal
 sub-print-decimal c =
     let at-start = c .before .before .before in
@@ -39,35 +33,12 @@ cast-print-decimal c =
     rw (back f, back64 f, zero-minus, toZ-ofZ (neg-fits x (small x f)), natAbs-neg)
     (neg-nonNeg x (sym (below-zero x) ∙ (rw (back f, back64 f) at (c .before .before .if1 .taken))), natAbs-fits x (small x f))
 
-print-decimal-requires : tie.Need-print-decimal-requires
-print-decimal-requires c κs = search needs
-
 cast-print-decimal-2 : tie.Need-cast-print-decimal-2
 cast-print-decimal-2 c =
     let x = c .before .args .x in
     let f = c .before .fits .x in
     rw (back f, back64 f) (pos-nonNeg x (sym (below-zero x) ∙ (rw (back f, back64 f) at (c .if1 .left))), natAbs-fits x (small x f))
 
-print-decimal-requires-2 : tie.Need-print-decimal-requires-2
-print-decimal-requires-2 c κs = search needs
-
-returns : tie.Need-returns
-returns c = search needs
-
-returns-2 : tie.Need-returns-2
-returns-2 c = search needs
-
 pub number-spec : {M : Type 1} → statement M
-number-spec =
-    tie.close
-    (tie.spec
-    cast-w
-    slice-aggregate-put
-    put-requires
-    sub-print-decimal
-    cast-print-decimal
-    print-decimal-requires
-    cast-print-decimal-2
-    print-decimal-requires-2
-    returns
-    returns-2)
+number-spec = tie.close (tie.spec cast-w (search needs) (search needs) sub-print-decimal cast-print-decimal (search needs)
+    cast-print-decimal-2 (search needs) (search needs) (search needs))

@@ -8,18 +8,6 @@ use Rattle.integers.proofs.Casts.{back-of}
 use Rattle.fraction_c.specs.Stored.{pair}
 use Rattle.vipr_c.proofs.ValueLaws.{value-given, value-refused}
 
-read-value-requires : tie.Need-read-value-requires
-read-value-requires c κs = search needs
-
-enum-known-f : tie.Need-enum-known-f
-enum-known-f c = search needs
-
-enum-told : tie.Need-enum-told
-enum-told c = search needs
-
-enum-told-2 : tie.Need-enum-told-2
-enum-told-2 c = search needs
-
 returns : tie.Need-returns
 returns c =
     let k = c .before .before .before .f .given in
@@ -33,6 +21,5 @@ returns-3 : tie.Need-returns-3
 returns-3 c = value-refused _ (c .before .before .read-value .ensures) (ap valueSays (c .enum-told2 .given .1))
 
 pub vipr-read-value-spec : {M : Type 1} → statement M
-vipr-read-value-spec =
-    tie.close
-    (tie.spec read-value-requires enum-known-f enum-told enum-told-2 returns returns-2 returns-3)
+vipr-read-value-spec = tie.close (tie.spec (search needs) (search needs) (search needs) (search needs) returns returns-2
+    returns-3)

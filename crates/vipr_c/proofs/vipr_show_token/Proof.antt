@@ -4,11 +4,8 @@ use Rattle.vipr_c.proofs.vipr_show_token.Statement.{statement}
 use Rattle.vipr_c.proofs.vipr_show_token.Tie as tie
 use Rattle.vipr_c.proofs.ShownLaws.{token-measured}
 
-show-token-requires : tie.Need-show-token-requires
-show-token-requires c κs = search needs
-
 returns : tie.Need-returns
 returns c = token-measured _ _ (c .show-token .ensures .bytes)
 
 pub vipr-show-token-spec : {M : Type 1} → statement M
-vipr-show-token-spec = tie.close (tie.spec show-token-requires returns)
+vipr-show-token-spec = tie.close (tie.spec (search needs) returns)

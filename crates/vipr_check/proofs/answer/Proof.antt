@@ -10,24 +10,6 @@ use Rattle.vipr_check.proofs.Lines.{with-cells}
 use Rattle.vipr_check.proofs.answer.Statement.{statement}
 use Rattle.vipr_check.proofs.answer.Tie as tie
 
-slice-aggregate-verify : tie.Need-slice-aggregate-verify
-slice-aggregate-verify c = search needs
-
-slice-aggregate-verify-2 : tie.Need-slice-aggregate-verify-2
-slice-aggregate-verify-2 c = search needs
-
-slice-aggregate-verify-3 : tie.Need-slice-aggregate-verify-3
-slice-aggregate-verify-3 c = search needs
-
-verify-requires : tie.Need-verify-requires
-verify-requires c κs = search needs
-
-put-answer-requires : tie.Need-put-answer-requires
-put-answer-requires c κs = search needs
-
-same-length : tie.Need-same-length
-same-length c = search needs
-
 returns : tie.Need-returns
 returns c =
     let p = c .before .before .put-answer in
@@ -39,13 +21,5 @@ returns c =
     )
 
 pub answer-spec : {M : Type 1} → statement M
-answer-spec =
-    tie.close
-    (tie.spec
-    slice-aggregate-verify
-    slice-aggregate-verify-2
-    slice-aggregate-verify-3
-    verify-requires
-    put-answer-requires
-    same-length
+answer-spec = tie.close (tie.spec (search needs) (search needs) (search needs) (search needs) (search needs) (search needs)
     returns)

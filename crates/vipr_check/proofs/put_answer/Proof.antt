@@ -11,27 +11,6 @@ use Rattle.vipr_check.proofs.Lines.{counted}
 use Rattle.vipr_check.proofs.put_answer.Statement.{statement}
 use Rattle.vipr_check.proofs.put_answer.Tie as tie
 
-enum-told : tie.Need-enum-told
-enum-told c = search needs
-
-slice-aggregate-put : tie.Need-slice-aggregate-put
-slice-aggregate-put c = search needs
-
-put-requires : tie.Need-put-requires
-put-requires c κs = search needs
-
-enum-known-answer : tie.Need-enum-known-answer
-enum-known-answer c = search needs
-
-number-requires : tie.Need-number-requires
-number-requires c κs = search needs
-
-put-refused-requires : tie.Need-put-refused-requires
-put-refused-requires c κs = search needs
-
-same-length : tie.Need-same-length
-same-length c = search needs
-
 returns : tie.Need-returns
 unfolding lineFor
 returns c =
@@ -40,9 +19,6 @@ returns c =
       counted (p .result) (p .last .0) (omega (arith, p .ensures .0, p .kept .0, s .pre)),
       p .ensures .1 ∙ ap (λ (v : Verification). lineFor (verificationSays v)) (sym (c .before .before .before .before .before .enum-told .given .1)),
     )
-
-same-length-2 : tie.Need-same-length-2
-same-length-2 c = search needs
 
 returns-2 : tie.Need-returns-2
 returns-2 c =
@@ -57,16 +33,5 @@ returns-2 c =
     )
 
 pub put-answer-spec : {M : Type 1} → statement M
-put-answer-spec =
-    tie.close
-    (tie.spec
-    enum-told
-    slice-aggregate-put
-    put-requires
-    enum-known-answer
-    number-requires
-    put-refused-requires
-    same-length
-    returns
-    same-length-2
-    returns-2)
+put-answer-spec = tie.close (tie.spec (search needs) (search needs) (search needs) (search needs) (search needs) (search needs)
+    (search needs) returns (search needs) returns-2)

@@ -9,23 +9,11 @@ use Rattle.vipr_check.proofs.Decimals.{few, fewest-decimal}
 use Rattle.vipr_check.proofs.put_decimal.Statement.{statement}
 use Rattle.vipr_check.proofs.put_decimal.Tie as tie
 
-decimal-requires : tie.Need-decimal-requires
-decimal-requires c κs = search needs
-
-array-share-prefix-digits : tie.Need-array-share-prefix-digits
-array-share-prefix-digits c = search needs
-
-slice-aggregate-put : tie.Need-slice-aggregate-put
-slice-aggregate-put c = search needs
-
 put-requires : tie.Need-put-requires
 put-requires c κs =
     let d = c .before .before .decimal in
     let s = c .before .before .before .before .before in
     omega (arith, few (s .args .n) (d .result) (s .fits .n) (d .ensures .1 .0), d .ensures .0 .1, s .pre)
-
-same-length : tie.Need-same-length
-same-length c = search needs
 
 returns : tie.Need-returns
 returns c =
@@ -38,12 +26,4 @@ returns c =
     )
 
 pub put-decimal-spec : {M : Type 1} → statement M
-put-decimal-spec =
-    tie.close
-    (tie.spec
-    decimal-requires
-    array-share-prefix-digits
-    slice-aggregate-put
-    put-requires
-    same-length
-    returns)
+put-decimal-spec = tie.close (tie.spec (search needs) (search needs) (search needs) put-requires (search needs) returns)

@@ -10,32 +10,8 @@ use borrow.Author.Needs.{needs}
 use Rattle.checker.proofs.checking.check.Statement.{statement}
 use Rattle.checker.proofs.checking.check.Tie as tie
 
-check-solutions-requires : tie.Need-check-solutions-requires
-check-solutions-requires c κs = search needs
-
-enum-told : tie.Need-enum-told
-enum-told c = search needs
-
-enum-told-2 : tie.Need-enum-told-2
-enum-told-2 c = search needs
-
 returns : tie.Need-returns
 returns c = λ tree h. solutions-refused tree (c .enum-told2 .given .1) (c .before .before .check-solutions .ensures tree h)
-
-end-to-reach-requires : tie.Need-end-to-reach-requires
-end-to-reach-requires c κs = search needs
-
-enum-told-3 : tie.Need-enum-told-3
-enum-told-3 c = search needs
-
-check-reaching-requires : tie.Need-check-reaching-requires
-check-reaching-requires c κs = search needs
-
-enum-known-bound : tie.Need-enum-known-bound
-enum-known-bound c = search needs
-
-check-reaching-requires-2 : tie.Need-check-reaching-requires-2
-check-reaching-requires-2 c κs = search needs
 
 returns-2 : tie.Need-returns-2
 returns-2 c = λ tree h.
@@ -50,17 +26,5 @@ returns-3 c = λ tree h.
     (c .check-reaching2 .ensures tree h (subst (λ (x : End). EndFormed x) is (e .ensures .1 tree _ h)) (sym is ∙ e .ensures .0 tree _ h))
 
 pub check-spec : {M : Type 1} → statement M
-check-spec =
-    tie.close
-    (tie.spec
-    check-solutions-requires
-    enum-told
-    enum-told-2
-    returns
-    end-to-reach-requires
-    enum-told-3
-    check-reaching-requires
-    enum-known-bound
-    check-reaching-requires-2
-    returns-2
-    returns-3)
+check-spec = tie.close (tie.spec (search needs) (search needs) (search needs) returns (search needs) (search needs)
+    (search needs) (search needs) (search needs) returns-2 returns-3)

@@ -10,21 +10,9 @@ use borrow.Author.Needs.{needs}
 use Rattle.checker.proofs.checking.check_proof.Statement.{statement}
 use Rattle.checker.proofs.checking.check_proof.Tie as tie
 
-check-derivations-requires : tie.Need-check-derivations-requires
-check-derivations-requires c κs = search needs
-
-enum-told : tie.Need-enum-told
-enum-told c = search needs
-
-enum-told-2 : tie.Need-enum-told-2
-enum-told-2 c = search needs
-
 returns : tie.Need-returns
 returns c = λ tree os h e f.
     stops (c .before .before .check-derivations .result) (derivationsOf tree os) _ (c .enum-told2 .given .1) (c .before .before .check-derivations .ensures tree os h e f)
-
-check-claim-requires : tie.Need-check-claim-requires
-check-claim-requires c κs = search needs
 
 returns-2 : tie.Need-returns-2
 returns-2 c = λ tree os h e f.
@@ -32,12 +20,4 @@ returns-2 c = λ tree os h e f.
     (c .check-claim .ensures tree h ∙ ap (λ (x : Header). require (isProved tree) 17 (lastPlace (x .derivation) (lastRow tree))) (h .header-is))
 
 pub check-proof-spec : {M : Type 1} → statement M
-check-proof-spec =
-    tie.close
-    (tie.spec
-    check-derivations-requires
-    enum-told
-    enum-told-2
-    returns
-    check-claim-requires
-    returns-2)
+check-proof-spec = tie.close (tie.spec (search needs) (search needs) (search needs) returns (search needs) returns-2)

@@ -6,22 +6,10 @@ use borrow.Author.Needs.{needs}
 use Rattle.checker.proofs.checking.check_reaching.Statement.{statement}
 use Rattle.checker.proofs.checking.check_reaching.Tie as tie
 
-objectives-of-requires : tie.Need-objectives-of-requires
-objectives-of-requires c κs = search needs
-
-enum-known-place : tie.Need-enum-known-place
-enum-known-place c = search needs
-
-enum-known-best : tie.Need-enum-known-best
-enum-known-best c = search needs
-
 returns : tie.Need-returns
 returns c = λ tree h b e.
     let w = found tree _ (c .before .before .before .best .given .1) (c .before .before .before .before .before .objectives-of .ensures tree h b) in
     not-reached tree _ (c .before .before .before .before .before .before .before .before .args .asked) e _ w (c .if1 .taken) (ap (λ (x : Header). x .relation) (h .header-is))
-
-check-proof-requires : tie.Need-check-proof-requires
-check-proof-requires c κs = search needs
 
 returns-2 : tie.Need-returns-2
 returns-2 c = λ tree h b e. too-wide tree _ (c .before .place .given .1) (c .before .before .before .objectives-of .ensures tree h b)
@@ -32,13 +20,5 @@ returns-3 c = λ tree h b e.
     is-reached tree _ (c .before .before .before .before .before .before .before .before .before .args .asked) e _ w (c .before .if1 .left) (c .check-proof .ensures tree (w .values) h (w .best .best-is) (w .best .fraction))
 
 pub check-reaching-spec : {M : Type 1} → statement M
-check-reaching-spec =
-    tie.close
-    (tie.spec
-    objectives-of-requires
-    enum-known-place
-    enum-known-best
-    returns
-    check-proof-requires
-    returns-2
+check-reaching-spec = tie.close (tie.spec (search needs) (search needs) (search needs) returns (search needs) returns-2
     returns-3)

@@ -8,12 +8,6 @@ use Rattle.claims.proofs.assumptions.is_assumption.Tie as tie
 returns : tie.Need-returns
 returns c = λ tree values e lt. given-not e _ (c .if1 .taken)
 
-word-of-requires : tie.Need-word-of-requires
-word-of-requires c κs = search needs
-
-enum-told : tie.Need-enum-told
-enum-told c = search needs
-
 returns-2 : tie.Need-returns-2
 returns-2 c = let w = c .before .before in λ tree values e lt. word-asm e _ _ (w .word-of .ensures) (w .before .if1 .left) lt (c .enum-told .given .1)
 
@@ -21,4 +15,4 @@ returns-3 : tie.Need-returns-3
 returns-3 c = let w = c .before in λ tree values e lt. word-other e _ (w .word-of .result) (w .word-of .ensures) (w .before .if1 .left) lt (c .match .keys2)
 
 pub is-assumption-spec : {M : Type 1} → statement M
-is-assumption-spec = tie.close (tie.spec returns word-of-requires enum-told returns-2 returns-3)
+is-assumption-spec = tie.close (tie.spec returns (search needs) (search needs) returns-2 returns-3)

@@ -5,17 +5,8 @@ use Rattle.claims.proofs.MasksLaws.{free-by}
 use Rattle.claims.proofs.assumptions.is_free.Statement.{statement}
 use Rattle.claims.proofs.assumptions.is_free.Tie as tie
 
-sets-of-requires : tie.Need-sets-of-requires
-sets-of-requires c κs = search needs
-
-set-at-requires : tie.Need-set-at-requires
-set-at-requires c κs = search needs
-
-is-empty-requires : tie.Need-is-empty-requires
-is-empty-requires c κs = search needs
-
 returns : tie.Need-returns
 returns c = λ tree values e lt. free-by _ (c .before .before .before .sets-of .ensures tree values e _ lt) (c .before .set-at .ensures) _ (c .is-empty .ensures)
 
 pub is-free-spec : {M : Type 1} → statement M
-is-free-spec = tie.close (tie.spec sets-of-requires set-at-requires is-empty-requires returns)
+is-free-spec = tie.close (tie.spec (search needs) (search needs) (search needs) returns)

@@ -6,12 +6,6 @@ use Rattle.claims.proofs.MasksLaws.{mask-in, mask-beyond}
 use Rattle.claims.proofs.assumptions.set_at.Statement.{statement}
 use Rattle.claims.proofs.assumptions.set_at.Tie as tie
 
-mul-result : tie.Need-mul-result
-mul-result c = search needs
-
-element-copy-out-result : tie.Need-element-copy-out-result
-element-copy-out-result c = search needs
-
 returns : tie.Need-returns
 returns c = sym (mask-in _ _ (c .before .if1 .taken))
 
@@ -19,4 +13,4 @@ returns-2 : tie.Need-returns-2
 returns-2 c = sym (mask-beyond _ _ (c .if1 .left))
 
 pub set-at-spec : {M : Type 1} → statement M
-set-at-spec = tie.close (tie.spec mul-result element-copy-out-result returns returns-2)
+set-at-spec = tie.close (tie.spec (search needs) (search needs) returns returns-2)

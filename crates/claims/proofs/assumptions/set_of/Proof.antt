@@ -7,45 +7,6 @@ use Rattle.claims.proofs.ReasonsLaws.{set-asm, set-uns, set-named}
 use Rattle.claims.proofs.assumptions.set_of.Statement.{statement}
 use Rattle.claims.proofs.assumptions.set_of.Tie as tie
 
-named-by-requires : tie.Need-named-by-requires
-named-by-requires c κs = search needs
-
-word-of-requires : tie.Need-word-of-requires
-word-of-requires c κs = search needs
-
-enum-told : tie.Need-enum-told
-enum-told c = search needs
-
-single-requires : tie.Need-single-requires
-single-requires c κs = search needs
-
-enum-told-2 : tie.Need-enum-told-2
-enum-told-2 c = search needs
-
-cell-at-requires : tie.Need-cell-at-requires
-cell-at-requires c κs = search needs
-
-cell-at-requires-2 : tie.Need-cell-at-requires-2
-cell-at-requires-2 c κs = search needs
-
-cell-at-requires-3 : tie.Need-cell-at-requires-3
-cell-at-requires-3 c κs = search needs
-
-cell-at-requires-4 : tie.Need-cell-at-requires-4
-cell-at-requires-4 c κs = search needs
-
-without-row-requires : tie.Need-without-row-requires
-without-row-requires c κs = search needs
-
-without-row-requires-2 : tie.Need-without-row-requires-2
-without-row-requires-2 c κs = search needs
-
-union-requires : tie.Need-union-requires
-union-requires c κs = search needs
-
-union-of-requires : tie.Need-union-of-requires
-union-of-requires c κs = search needs
-
 returns : tie.Need-returns
 returns c = let w = c .before .before .before in λ tree values d e k lt j. c .single .ensures j ∙ set-asm k _ (w .word-of .ensures) tree _ _ j (c .before .enum-told .given .1)
 
@@ -68,22 +29,6 @@ returns-3 c =
     c .union-of .ensures j ∙ set-named k (w .word-of .result) (w .word-of .ensures) tree _ _ j (w .before .named-by .ensures) (c .before .match .keys3)
 
 pub set-of-spec : {M : Type 1} → statement M
-set-of-spec =
-    tie.close
-    (tie.spec
-    named-by-requires
-    word-of-requires
-    enum-told
-    single-requires
-    enum-told-2
-    cell-at-requires
-    cell-at-requires-2
-    cell-at-requires-3
-    cell-at-requires-4
-    without-row-requires
-    without-row-requires-2
-    union-requires
-    union-of-requires
-    returns
-    returns-2
+set-of-spec = tie.close (tie.spec (search needs) (search needs) (search needs) (search needs) (search needs) (search needs)
+    (search needs) (search needs) (search needs) (search needs) (search needs) (search needs) (search needs) returns returns-2
     returns-3)

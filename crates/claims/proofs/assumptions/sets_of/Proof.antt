@@ -21,23 +21,14 @@ Inv-loop index rows header end all₀ assumed₀ r₀ all assumed r = (header .g
 abbrev μ-loop : tie.MeasureT-loop
 μ-loop index rows header end all₀ assumed₀ r₀ all assumed r = end - r
 
-in-array-requires : tie.Need-in-array-requires Inv-loop μ-loop
-in-array-requires c κs = search needs
-
 loop-holds : tie.Need-loop-holds Inv-loop μ-loop
 loop-holds c = (omega arith, omega arith, λ tree values e. sets-start e)
-
-set-of-requires : tie.Need-set-of-requires Inv-loop μ-loop
-set-of-requires c κs = search needs
 
 mul-all : tie.Need-mul-all Inv-loop μ-loop
 mul-all c = omega (arith, c .before .before .loop-test .taken, c .before .before .before .before .in-array .ensures)
 
 array-write-all : tie.Need-array-write-all Inv-loop μ-loop
 array-write-all c = omega (arith, c .before .before .loop-test .taken, c .before .before .before .before .in-array .ensures)
-
-is-assumption-requires : tie.Need-is-assumption-requires Inv-loop μ-loop
-is-assumption-requires c κs = search needs
 
 add-assumed : tie.Need-add-assumed Inv-loop μ-loop
 add-assumed c =
@@ -70,19 +61,5 @@ returns c =
     sets-end e (c .before .loop .inv .2 tree values e) (omega (arith, c .loop-test .left, c .before .before .in-array .ensures)) r lt
 
 pub sets-of-spec : {M : Type 1} → statement M
-sets-of-spec =
-    tie.close
-    (tie.spec
-    Inv-loop
-    μ-loop
-    in-array-requires
-    loop-holds
-    set-of-requires
-    mul-all
-    array-write-all
-    is-assumption-requires
-    add-assumed
-    add-r
-    loop-less
-    loop-again
-    returns)
+sets-of-spec = tie.close (tie.spec Inv-loop μ-loop (search needs) loop-holds (search needs) mul-all array-write-all
+    (search needs) add-assumed add-r loop-less loop-again returns)

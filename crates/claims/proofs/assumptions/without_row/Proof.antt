@@ -8,18 +8,6 @@ use Rattle.claims.proofs.ReasonsLaws.{without-by}
 use Rattle.claims.proofs.assumptions.without_row.Statement.{statement}
 use Rattle.claims.proofs.assumptions.without_row.Tie as tie
 
-set-at-requires : tie.Need-set-at-requires
-set-at-requires c κs = search needs
-
-is-assumption-requires : tie.Need-is-assumption-requires
-is-assumption-requires c κs = search needs
-
-set-at-requires-2 : tie.Need-set-at-requires-2
-set-at-requires-2 c κs = search needs
-
-without-requires : tie.Need-without-requires
-without-requires c κs = search needs
-
 returns : tie.Need-returns
 returns c =
     let i = c .before .before .before in
@@ -35,12 +23,4 @@ returns-2 c =
     ap (λ (m : ℕ). bit m j) (i .before .set-at .ensures) ∙ without-by tree _ _ _ j (i .is-assumption .ensures tree values e lt) (c .if1 .left)
 
 pub without-row-spec : {M : Type 1} → statement M
-without-row-spec =
-    tie.close
-    (tie.spec
-    set-at-requires
-    is-assumption-requires
-    set-at-requires-2
-    without-requires
-    returns
-    returns-2)
+without-row-spec = tie.close (tie.spec (search needs) (search needs) (search needs) (search needs) returns returns-2)

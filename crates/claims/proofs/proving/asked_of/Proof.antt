@@ -8,20 +8,8 @@ use Rattle.claims.proofs.AskedLaws.{askedAt, infeas-asked, end-asked}
 use Rattle.claims.proofs.proving.asked_of.Statement.{statement}
 use Rattle.claims.proofs.proving.asked_of.Tie as tie
 
-is-infeas-requires : tie.Need-is-infeas-requires
-is-infeas-requires c κs = search needs
-
 returns : tie.Need-returns
 returns c = ((λ tree rows e. infeas-asked e (c .before .is-infeas .ensures) (c .if1 .taken)), λ tree rows e. tt)
-
-end-of-requires : tie.Need-end-of-requires
-end-of-requires c κs = search needs
-
-enum-told : tie.Need-enum-told
-enum-told c = search needs
-
-enum-known-bound : tie.Need-enum-known-bound
-enum-known-bound c = search needs
 
 returns-2 : tie.Need-returns-2
 returns-2 c =
@@ -45,13 +33,4 @@ returns-3 c =
     )
 
 pub asked-of-spec : {M : Type 1} → statement M
-asked-of-spec =
-    tie.close
-    (tie.spec
-    is-infeas-requires
-    returns
-    end-of-requires
-    enum-told
-    enum-known-bound
-    returns-2
-    returns-3)
+asked-of-spec = tie.close (tie.spec (search needs) returns (search needs) (search needs) (search needs) returns-2 returns-3)

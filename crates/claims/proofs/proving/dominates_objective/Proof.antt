@@ -5,30 +5,6 @@ use Rattle.claims.proofs.ProvingLaws.{dominating-row}
 use Rattle.claims.proofs.proving.dominates_objective.Statement.{statement}
 use Rattle.claims.proofs.proving.dominates_objective.Tie as tie
 
-indices-of-requires : tie.Need-indices-of-requires
-indices-of-requires c κs = search needs
-
-values-of-requires : tie.Need-values-of-requires
-values-of-requires c κs = search needs
-
-coefficients-of-requires : tie.Need-coefficients-of-requires
-coefficients-of-requires c κs = search needs
-
-indices-of-requires-2 : tie.Need-indices-of-requires-2
-indices-of-requires-2 c κs = search needs
-
-values-of-requires-2 : tie.Need-values-of-requires-2
-values-of-requires-2 c κs = search needs
-
-compare-requires : tie.Need-compare-requires
-compare-requires c κs = search needs
-
-sense-asked-requires : tie.Need-sense-asked-requires
-sense-asked-requires c κs = search needs
-
-dominates-requires : tie.Need-dominates-requires
-dominates-requires c κs = search needs
-
 returns : tie.Need-returns
 returns c =
     let m = c .before .before in
@@ -39,15 +15,5 @@ returns c =
     _ (c .before .sense-asked .result) _ bound (c .before .sense-asked .ensures) (m .compare .ensures) (c .dominates .ensures)
 
 pub dominates-objective-spec : {M : Type 1} → statement M
-dominates-objective-spec =
-    tie.close
-    (tie.spec
-    indices-of-requires
-    values-of-requires
-    coefficients-of-requires
-    indices-of-requires-2
-    values-of-requires-2
-    compare-requires
-    sense-asked-requires
-    dominates-requires
-    returns)
+dominates-objective-spec = tie.close (tie.spec (search needs) (search needs) (search needs) (search needs) (search needs)
+    (search needs) (search needs) (search needs) returns)

@@ -5,18 +5,8 @@ use Rattle.claims.proofs.ProvingLaws.{absurd-row}
 use Rattle.claims.proofs.proving.is_absurd.Statement.{statement}
 use Rattle.claims.proofs.proving.is_absurd.Tie as tie
 
-indices-of-requires : tie.Need-indices-of-requires
-indices-of-requires c κs = search needs
-
-values-of-requires : tie.Need-values-of-requires
-values-of-requires c κs = search needs
-
-is-absurd-requires : tie.Need-is-absurd-requires
-is-absurd-requires c κs = search needs
-
 returns : tie.Need-returns
 returns c = λ tree x is formed. absurd-row tree is formed (c .before .before .indices-of .ensures) (c .before .values-of .ensures) (c .is-absurd .ensures)
 
 pub is-absurd-spec : {M : Type 1} → statement M
-is-absurd-spec =
-    tie.close (tie.spec indices-of-requires values-of-requires is-absurd-requires returns)
+is-absurd-spec = tie.close (tie.spec (search needs) (search needs) (search needs) returns)

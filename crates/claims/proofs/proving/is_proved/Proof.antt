@@ -7,17 +7,8 @@ use Rattle.claims.proofs.AskedLaws.{nothing-asked, last-asked}
 use Rattle.claims.proofs.proving.is_proved.Statement.{statement}
 use Rattle.claims.proofs.proving.is_proved.Tie as tie
 
-asked-of-requires : tie.Need-asked-of-requires
-asked-of-requires c κs = search needs
-
-enum-told : tie.Need-enum-told
-enum-told c = search needs
-
 returns : tie.Need-returns
 returns c = λ tree e. nothing-asked tree (sym (ap (askedSays tree) (c .enum-told .given .1)) ∙ c .before .before .asked-of .ensures .0 tree _ e)
-
-last-answers-requires : tie.Need-last-answers-requires
-last-answers-requires c κs = search needs
 
 returns-2 : tie.Need-returns-2
 returns-2 c =
@@ -25,5 +16,4 @@ returns-2 c =
     λ tree e. c .last-answers .ensures tree e (a .ensures .1 tree _ e) ∙ last-asked tree (a .result) (c .before .match .keys2) (a .ensures .0 tree _ e)
 
 pub is-proved-spec : {M : Type 1} → statement M
-is-proved-spec =
-    tie.close (tie.spec asked-of-requires enum-told returns last-answers-requires returns-2)
+is-proved-spec = tie.close (tie.spec (search needs) (search needs) returns (search needs) returns-2)

@@ -13,18 +13,6 @@ use Rattle.claims.proofs.proving.last_answers.Tie as tie
 returns : tie.Need-returns
 returns c = λ tree e ok. sym (ap (lastPasses tree (meets tree (askedSays tree (c .before .before .before .before .args .asked)))) (no-last e (c .if1 .taken)))
 
-sub-last : tie.Need-sub-last
-sub-last c = search needs
-
-row-at-requires : tie.Need-row-at-requires
-row-at-requires c κs = search needs
-
-meets-requires : tie.Need-meets-requires
-meets-requires c κs = search needs
-
-is-free-requires : tie.Need-is-free-requires
-is-free-requires c κs = search needs
-
 returns-2 : tie.Need-returns-2
 returns-2 c =
     let m = c .before .before in
@@ -44,6 +32,4 @@ returns-3 c =
     ∙ last-passes e (meets tree (askedSays tree (m .before .before .before .before .before .before .before .args .asked))) lt
 
 pub last-answers-spec : {M : Type 1} → statement M
-last-answers-spec =
-    tie.close
-    (tie.spec returns sub-last row-at-requires meets-requires is-free-requires returns-2 returns-3)
+last-answers-spec = tie.close (tie.spec returns (search needs) (search needs) (search needs) (search needs) returns-2 returns-3)

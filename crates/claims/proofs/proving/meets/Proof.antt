@@ -8,21 +8,6 @@ use Rattle.claims.specs.declared.proving.Asked.{Asked}
 use Rattle.claims.proofs.proving.meets.Statement.{statement}
 use Rattle.claims.proofs.proving.meets.Tie as tie
 
-enum-told : tie.Need-enum-told
-enum-told c = search needs
-
-enum-told-2 : tie.Need-enum-told-2
-enum-told-2 c = search needs
-
-is-absurd-requires : tie.Need-is-absurd-requires
-is-absurd-requires c κs = search needs
-
-enum-known-asked : tie.Need-enum-known-asked
-enum-known-asked c = search needs
-
-dominates-objective-requires : tie.Need-dominates-objective-requires
-dominates-objective-requires c κs = search needs
-
 returns : tie.Need-returns
 returns c = λ tree rows x e is formed ok. ap (λ (a : Asked). meets tree (askedSays tree a) (constraintOf tree x)) (sym (c .enum-told .given .1))
 
@@ -36,14 +21,5 @@ returns-3 c =
     c .dominates-objective .ensures tree rows x e is formed (subst AskedFormed told ok) ∙ ap (λ (a : Asked). meets tree (askedSays tree a) (constraintOf tree x)) (sym told)
 
 pub meets-spec : {M : Type 1} → statement M
-meets-spec =
-    tie.close
-    (tie.spec
-    enum-told
-    enum-told-2
-    is-absurd-requires
-    enum-known-asked
-    dominates-objective-requires
-    returns
-    returns-2
+meets-spec = tie.close (tie.spec (search needs) (search needs) (search needs) (search needs) (search needs) returns returns-2
     returns-3)

@@ -28,38 +28,11 @@ abbrev μ-loop : tie.MeasureT-loop
 inside : (c : tie.In-loop Inv-loop μ-loop) → let a = c .before .before .before .before .before .before .before .args in c .before .loop .k < pairsIn (a .named .now) (a .factors .now)
 inside c = subst (λ (n : ℕ). c .before .loop .k < n) (c .before .before .before .pairs-in .ensures) (c .loop-test .taken)
 
-pairs-in-requires : tie.Need-pairs-in-requires Inv-loop μ-loop
-pairs-in-requires c κs = search needs
-
-empty-requires : tie.Need-empty-requires Inv-loop μ-loop
-empty-requires c κs = search needs
-
 loop-holds : tie.Need-loop-holds Inv-loop μ-loop
 loop-holds c = (c .empty .ensures .1 .0, λ tree e below. combining tree _ (c .empty .ensures .0) (c .empty .ensures .1 .1))
 
-mul-r : tie.Need-mul-r Inv-loop μ-loop
-mul-r c = search needs
-
-shared-slice-read-r : tie.Need-shared-slice-read-r Inv-loop μ-loop
-shared-slice-read-r c = search needs
-
 cast-r : tie.Need-cast-r Inv-loop μ-loop
 cast-r c = omega (arith, c .shared-slice-known4 .given (c .before .before .loop .k))
-
-value-at-requires : tie.Need-value-at-requires Inv-loop μ-loop
-value-at-requires c κs = search needs
-
-row-at-requires : tie.Need-row-at-requires Inv-loop μ-loop
-row-at-requires c κs = search needs
-
-indices-of-requires : tie.Need-indices-of-requires Inv-loop μ-loop
-indices-of-requires c κs = search needs
-
-values-of-requires : tie.Need-values-of-requires Inv-loop μ-loop
-values-of-requires c κs = search needs
-
-next-requires : tie.Need-next-requires Inv-loop μ-loop
-next-requires c κs = search needs
 
 returns : tie.Need-returns Inv-loop μ-loop
 returns c =
@@ -68,12 +41,6 @@ returns c =
       (λ tree e below place. combining-stop (w .next .result) (stepped e _ _ below (inside l) (l .before .loop .inv .0) (l .before .loop .inv .1 tree e below) (w .before .before .before .row-at .ensures tree _) (w .before .before .indices-of .ensures) (w .before .values-of .ensures) (w .before .before .before .before .value-at .ensures) (w .next .result) (w .next .ensures .0) (w .next .ensures .1)) place (not-true _ (c .if1 .taken))),
       λ tree e below. stepped e _ _ below (inside l) (l .before .loop .inv .0) (l .before .loop .inv .1 tree e below) (w .before .before .before .row-at .ensures tree _) (w .before .before .indices-of .ensures) (w .before .values-of .ensures) (w .before .before .before .before .value-at .ensures) (w .next .result) (w .next .ensures .0) (w .next .ensures .1) .fractions,
     )
-
-add-k : tie.Need-add-k Inv-loop μ-loop
-add-k c = search needs
-
-loop-less : tie.Need-loop-less Inv-loop μ-loop
-loop-less c = search needs
 
 loop-again : tie.Need-loop-again Inv-loop μ-loop
 loop-again c =
@@ -91,24 +58,6 @@ returns-2 c =
     )
 
 pub combine-spec : {M : Type 1} → statement M
-combine-spec =
-    tie.close
-    (tie.spec
-    Inv-loop
-    μ-loop
-    pairs-in-requires
-    empty-requires
-    loop-holds
-    mul-r
-    shared-slice-read-r
-    cast-r
-    value-at-requires
-    row-at-requires
-    indices-of-requires
-    values-of-requires
-    next-requires
-    returns
-    add-k
-    loop-less
-    loop-again
+combine-spec = tie.close (tie.spec Inv-loop μ-loop (search needs) (search needs) loop-holds (search needs) (search needs) cast-r
+    (search needs) (search needs) (search needs) (search needs) (search needs) returns (search needs) (search needs) loop-again
     returns-2)

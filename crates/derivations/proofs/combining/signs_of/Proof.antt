@@ -28,38 +28,11 @@ abbrev μ-loop : tie.MeasureT-loop
 inside : (c : tie.In-loop Inv-loop μ-loop) → let a = c .before .before .before .before .before .before .before .args in c .before .loop .k < pairsIn (a .named .now) (a .factors .now)
 inside c = subst (λ (n : ℕ). c .before .loop .k < n) (c .before .before .before .pairs-in .ensures) (c .loop-test .taken)
 
-pairs-in-requires : tie.Need-pairs-in-requires Inv-loop μ-loop
-pairs-in-requires c κs = search needs
-
-none-requires : tie.Need-none-requires Inv-loop μ-loop
-none-requires c κs = search needs
-
 loop-holds : tie.Need-loop-holds Inv-loop μ-loop
 loop-holds c = λ tree header values e below. signing tree _ (c .none .ensures)
 
-mul-r : tie.Need-mul-r Inv-loop μ-loop
-mul-r c = search needs
-
-shared-slice-read-r : tie.Need-shared-slice-read-r Inv-loop μ-loop
-shared-slice-read-r c = search needs
-
 cast-r : tie.Need-cast-r Inv-loop μ-loop
 cast-r c = omega (arith, c .shared-slice-known4 .given (c .before .before .loop .k))
-
-value-at-requires : tie.Need-value-at-requires Inv-loop μ-loop
-value-at-requires c κs = search needs
-
-sense-at-requires : tie.Need-sense-at-requires Inv-loop μ-loop
-sense-at-requires c κs = search needs
-
-next-requires : tie.Need-next-requires Inv-loop μ-loop
-next-requires c κs = search needs
-
-add-k : tie.Need-add-k Inv-loop μ-loop
-add-k c = search needs
-
-loop-less : tie.Need-loop-less Inv-loop μ-loop
-loop-less c = search needs
 
 loop-again : tie.Need-loop-again Inv-loop μ-loop
 loop-again c =
@@ -74,21 +47,5 @@ returns c =
     signing-end (listed-none aMultiplier _ _ _ (subst (λ (n : ℕ). n ≤ c .before .loop .k) (c .before .before .before .pairs-in .ensures) (c .loop-test .left))) (c .before .loop .inv tree header values e below)
 
 pub signs-of-spec : {M : Type 1} → statement M
-signs-of-spec =
-    tie.close
-    (tie.spec
-    Inv-loop
-    μ-loop
-    pairs-in-requires
-    none-requires
-    loop-holds
-    mul-r
-    shared-slice-read-r
-    cast-r
-    value-at-requires
-    sense-at-requires
-    next-requires
-    add-k
-    loop-less
-    loop-again
-    returns)
+signs-of-spec = tie.close (tie.spec Inv-loop μ-loop (search needs) (search needs) loop-holds (search needs) (search needs)
+    cast-r (search needs) (search needs) (search needs) (search needs) (search needs) loop-again returns)

@@ -10,12 +10,6 @@ use Rattle.derivations.proofs.RowsLaws.{lists-row, right-fraction, term
 use Rattle.derivations.proofs.reasons.check_by_row.Statement.{statement}
 use Rattle.derivations.proofs.reasons.check_by_row.Tie as tie
 
-row-at-requires : tie.Need-row-at-requires
-row-at-requires c κs = search needs
-
-check-by-terms-requires : tie.Need-check-by-terms-requires
-check-by-terms-requires c κs = search needs
-
 returns : tie.Need-returns
 returns c =
     λ tree r e l lt.
@@ -25,4 +19,4 @@ returns c =
     ∙ ap (λ (d : Constraint). checkDominates tree d r) (constraint-is by refl refl)
 
 pub check-by-row-spec : {M : Type 1} → statement M
-check-by-row-spec = tie.close (tie.spec row-at-requires check-by-terms-requires returns)
+check-by-row-spec = tie.close (tie.spec (search needs) (search needs) returns)

@@ -12,18 +12,6 @@ use Rattle.derivations.proofs.RowsLaws.{coefficients-are, coefficients-
 use Rattle.derivations.proofs.reasons.check_by_terms.Statement.{statement}
 use Rattle.derivations.proofs.reasons.check_by_terms.Tie as tie
 
-indices-of-requires : tie.Need-indices-of-requires
-indices-of-requires c κs = search needs
-
-values-of-requires : tie.Need-values-of-requires
-values-of-requires c κs = search needs
-
-coefficients-of-requires : tie.Need-coefficients-of-requires
-coefficients-of-requires c κs = search needs
-
-check-dominates-requires : tie.Need-check-dominates-requires
-check-dominates-requires c κs = search needs
-
 returns : tie.Need-returns
 returns c =
     λ tree r l formed f.
@@ -35,11 +23,4 @@ returns c =
     ∙ ap (λ (g : ℕ → Fraction). checkDominates tree (constraintBy g (a .sense) (a .right)) r) (coefficients-are _ (k .coefficients-of .ensures) e (l .few) n)
 
 pub check-by-terms-spec : {M : Type 1} → statement M
-check-by-terms-spec =
-    tie.close
-    (tie.spec
-    indices-of-requires
-    values-of-requires
-    coefficients-of-requires
-    check-dominates-requires
-    returns)
+check-by-terms-spec = tie.close (tie.spec (search needs) (search needs) (search needs) (search needs) returns)

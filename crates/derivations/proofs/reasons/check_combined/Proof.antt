@@ -9,30 +9,12 @@ use Rattle.derivations.proofs.ReasonsLaws.{suitable-of, not-suitable, t
 use Rattle.derivations.proofs.reasons.check_combined.Statement.{statement}
 use Rattle.derivations.proofs.reasons.check_combined.Tie as tie
 
-multipliers-of-requires : tie.Need-multipliers-of-requires
-multipliers-of-requires c κs = search needs
-
-indices-of-requires : tie.Need-indices-of-requires
-indices-of-requires c κs = search needs
-
-values-of-requires : tie.Need-values-of-requires
-values-of-requires c κs = search needs
-
-signs-of-requires : tie.Need-signs-of-requires
-signs-of-requires c κs = search needs
-
-are-suitable-requires : tie.Need-are-suitable-requires
-are-suitable-requires c κs = search needs
-
 returns : tie.Need-returns
 returns c =
     λ tree r ms h l m b.
     let w = c .before .before in
     let g = fetched-are _ _ (w .before .before .indices-of .ensures) (w .before .values-of .ensures) (w .before .before .before .multipliers-of .ensures) m b in
     not-suitable tree _ _ _ (l .is .place-is) (sym (not-true _ (c .if1 .taken)) ∙ c .before .are-suitable .ensures tree _ (w .signs-of .ensures tree _ _ (h .encodes) (g .below))) ∙ suitable-of tree _ _ (g .same)
-
-combine-requires : tie.Need-combine-requires
-combine-requires c κs = search needs
 
 returns-2 : tie.Need-returns-2
 returns-2 c =
@@ -44,12 +26,6 @@ returns-2 c =
     too-wide tree _ _ _ (sym (not-false _ (s .if1 .left)) ∙ s .before .are-suitable .ensures tree _ (w .signs-of .ensures tree _ _ (h .encodes) (g .below))) (l .is .place-is)
     (sym (ap (λ (fits : Bool). within (r .name .place) fits (combinationOf (k .result))) (not-true (k .result .fits) (c .if2 .taken))) ∙ k .ensures .0 tree (h .encodes) (g .below) _)
     ∙ suitable-of tree _ _ (g .same)
-
-sense-requires : tie.Need-sense-requires
-sense-requires c κs = search needs
-
-check-made-requires : tie.Need-check-made-requires
-check-made-requires c κs = search needs
 
 returns-3 : tie.Need-returns-3
 returns-3 c =
@@ -68,17 +44,5 @@ returns-3 c =
     ∙ suitable-of tree _ _ (g .same)
 
 pub check-combined-spec : {M : Type 1} → statement M
-check-combined-spec =
-    tie.close
-    (tie.spec
-    multipliers-of-requires
-    indices-of-requires
-    values-of-requires
-    signs-of-requires
-    are-suitable-requires
-    returns
-    combine-requires
-    returns-2
-    sense-requires
-    check-made-requires
-    returns-3)
+check-combined-spec = tie.close (tie.spec (search needs) (search needs) (search needs) (search needs) (search needs) returns
+    (search needs) returns-2 (search needs) (search needs) returns-3)

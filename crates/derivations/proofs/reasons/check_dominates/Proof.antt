@@ -5,18 +5,6 @@ use Rattle.derivations.proofs.RowsLaws.{right-fraction, terms-formed, d
 use Rattle.derivations.proofs.reasons.check_dominates.Statement.{statement}
 use Rattle.derivations.proofs.reasons.check_dominates.Tie as tie
 
-indices-of-requires : tie.Need-indices-of-requires
-indices-of-requires c κs = search needs
-
-values-of-requires : tie.Need-values-of-requires
-values-of-requires c κs = search needs
-
-compare-requires : tie.Need-compare-requires
-compare-requires c κs = search needs
-
-dominates-requires : tie.Need-dominates-requires
-dominates-requires c κs = search needs
-
 returns : tie.Need-returns
 returns c =
     λ tree r l are f.
@@ -32,12 +20,4 @@ returns-2 c =
     require-no 15 _ (dominates-row l e v _ (c .before .dominates .ensures _ _ _ (c .before .before .compare .ensures (terms-formed l e v) are) f (right-fraction l))) (l .is .place-is) (c .if1 .left)
 
 pub check-dominates-spec : {M : Type 1} → statement M
-check-dominates-spec =
-    tie.close
-    (tie.spec
-    indices-of-requires
-    values-of-requires
-    compare-requires
-    dominates-requires
-    returns
-    returns-2)
+check-dominates-spec = tie.close (tie.spec (search needs) (search needs) (search needs) (search needs) returns returns-2)

@@ -23,19 +23,10 @@ made s = constraintBy (coefficientsOf (s .args .nums .now) (s .args .dens .now))
 can-be : (c : tie.After-can-be-rounded) {tree : Tree} → let s = c .before .before .before .before in VariablesAre tree (s .args .n) (s .args .integers .now) → c .can-be-rounded .result ≡ canBeRounded tree (made s)
 can-be c {tree} are = c .can-be-rounded .ensures tree _ refl (c .before .is-integral .ensures tree are _ refl)
 
-check-dominates-requires : tie.Need-check-dominates-requires
-check-dominates-requires c κs = search needs
-
 returns : tie.Need-returns
 returns c =
     λ tree r are l fs f.
     c .check-dominates .ensures tree r l fs f ∙ sym (ap (λ (b : Bool). concluded b tree r (made (c .before .before .before))) (not-true (c .before .before .before .args .rounds) (c .before .if1 .taken)))
-
-is-integral-requires : tie.Need-is-integral-requires
-is-integral-requires c κs = search needs
-
-can-be-rounded-requires : tie.Need-can-be-rounded-requires
-can-be-rounded-requires c κs = search needs
 
 returns-2 : tie.Need-returns-2
 returns-2 c =
@@ -43,12 +34,6 @@ returns-2 c =
     let s = c .before .before .before .before .before in
     require-stop 14 _ (can-be (c .before) are) _ (l .is .place-is) (not-true _ (c .if2 .taken))
     ∙ sym (ap (λ (b : Bool). concluded b tree r (made s)) (not-false (s .args .rounds) (c .before .before .before .if1 .left)))
-
-rounded-right-requires : tie.Need-rounded-right-requires
-rounded-right-requires c κs = search needs
-
-check-dominates-requires-2 : tie.Need-check-dominates-requires-2
-check-dominates-requires-2 c κs = search needs
 
 returns-3 : tie.Need-returns-3
 unfolding rounded
@@ -63,14 +48,5 @@ returns-3 c =
     ∙ sym (ap (λ (b : Bool). concluded b tree r (made s)) (not-false (s .args .rounds) (k .before .before .if1 .left)))
 
 pub check-made-spec : {M : Type 1} → statement M
-check-made-spec =
-    tie.close
-    (tie.spec
-    check-dominates-requires
-    returns
-    is-integral-requires
-    can-be-rounded-requires
-    returns-2
-    rounded-right-requires
-    check-dominates-requires-2
-    returns-3)
+check-made-spec = tie.close (tie.spec (search needs) returns (search needs) (search needs) returns-2 (search needs)
+    (search needs) returns-3)

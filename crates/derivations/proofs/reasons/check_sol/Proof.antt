@@ -17,12 +17,6 @@ returns c =
     λ tree r rows e l f.
     ap (refused 18) (l .is .place-is) ∙ sym (ap (λ (any : Bool). checkSol tree (bestSays any (c .before .before .args .best)) r) (not-true (c .before .before .args .any) (c .if1 .taken)))
 
-sense-towards-requires : tie.Need-sense-towards-requires
-sense-towards-requires c κs = search needs
-
-check-by-terms-requires : tie.Need-check-by-terms-requires
-check-by-terms-requires c κs = search needs
-
 returns-2 : tie.Need-returns-2
 unfolding objectiveWith
 returns-2 c =
@@ -34,5 +28,4 @@ returns-2 c =
     ∙ sym (ap (λ (any : Bool). checkSol tree (bestSays any (a .best)) r) (not-false (a .any) (c .before .before .if1 .left)))
 
 pub check-sol-spec : {M : Type 1} → statement M
-check-sol-spec =
-    tie.close (tie.spec returns sense-towards-requires check-by-terms-requires returns-2)
+check-sol-spec = tie.close (tie.spec returns (search needs) (search needs) returns-2)

@@ -7,21 +7,9 @@ use Rattle.derivations.proofs.Refusals.{require-on, require-stop, verdi
 use Rattle.derivations.proofs.reasons.check_uns.Statement.{statement}
 use Rattle.derivations.proofs.reasons.check_uns.Tie as tie
 
-is-proper-split-requires : tie.Need-is-proper-split-requires
-is-proper-split-requires c κs = search needs
-
 returns : tie.Need-returns
 unfolding checkUns
 returns c = λ tree r h l b. require-stop 16 _ (c .before .is-proper-split .ensures tree h (b .1 .0) (b .1 .1 .1 .0)) _ (l .is .place-is) (not-true _ (c .if1 .taken))
-
-check-by-row-requires : tie.Need-check-by-row-requires
-check-by-row-requires c κs = search needs
-
-enum-told : tie.Need-enum-told
-enum-told c = search needs
-
-enum-told-2 : tie.Need-enum-told-2
-enum-told-2 c = search needs
 
 returns-2 : tie.Need-returns-2
 unfolding checkUns
@@ -30,9 +18,6 @@ returns-2 c =
     let w = c .before .before in
     verdict-stop _ _ (w .check-by-row .ensures tree r (h .encodes) l (b .0)) _ _ (c .enum-told2 .given .1)
     ∙ require-on 16 _ (w .before .before .is-proper-split .ensures tree h (b .1 .0) (b .1 .1 .1 .0)) _ (not-false _ (w .before .if1 .left))
-
-check-by-row-requires-2 : tie.Need-check-by-row-requires-2
-check-by-row-requires-2 c κs = search needs
 
 returns-3 : tie.Need-returns-3
 unfolding checkUns
@@ -44,14 +29,5 @@ returns-3 c =
     ∙ require-on 16 _ (w .before .before .is-proper-split .ensures tree h (b .1 .0) (b .1 .1 .1 .0)) _ (not-false _ (w .before .if1 .left))
 
 pub check-uns-spec : {M : Type 1} → statement M
-check-uns-spec =
-    tie.close
-    (tie.spec
-    is-proper-split-requires
-    returns
-    check-by-row-requires
-    enum-told
-    enum-told-2
-    returns-2
-    check-by-row-requires-2
-    returns-3)
+check-uns-spec = tie.close (tie.spec (search needs) returns (search needs) (search needs) (search needs) returns-2
+    (search needs) returns-3)

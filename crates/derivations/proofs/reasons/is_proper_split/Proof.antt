@@ -6,27 +6,6 @@ use Rattle.derivations.proofs.RowsLaws.{few-are, lists-row, terms-forme
 use Rattle.derivations.proofs.reasons.is_proper_split.Statement.{statement}
 use Rattle.derivations.proofs.reasons.is_proper_split.Tie as tie
 
-row-at-requires : tie.Need-row-at-requires
-row-at-requires c κs = search needs
-
-row-at-requires-2 : tie.Need-row-at-requires-2
-row-at-requires-2 c κs = search needs
-
-indices-of-requires : tie.Need-indices-of-requires
-indices-of-requires c κs = search needs
-
-values-of-requires : tie.Need-values-of-requires
-values-of-requires c κs = search needs
-
-indices-of-requires-2 : tie.Need-indices-of-requires-2
-indices-of-requires-2 c κs = search needs
-
-values-of-requires-2 : tie.Need-values-of-requires-2
-values-of-requires-2 c κs = search needs
-
-is-split-requires : tie.Need-is-split-requires
-is-split-requires c κs = search needs
-
 returns : tie.Need-returns
 unfolding isProperSplit
 returns c =
@@ -42,14 +21,5 @@ returns c =
     c .is-split .ensures tree (h .integers-are) (few-are e) (terms-formed l i v) (terms-formed l2 i2 v2) ∙ ap₂ (isSplit tree) (constraint-is l i v) (constraint-is l2 i2 v2)
 
 pub is-proper-split-spec : {M : Type 1} → statement M
-is-proper-split-spec =
-    tie.close
-    (tie.spec
-    row-at-requires
-    row-at-requires-2
-    indices-of-requires
-    values-of-requires
-    indices-of-requires-2
-    values-of-requires-2
-    is-split-requires
-    returns)
+is-proper-split-spec = tie.close (tie.spec (search needs) (search needs) (search needs) (search needs) (search needs)
+    (search needs) (search needs) returns)

@@ -7,9 +7,6 @@ use Rattle.derivations.proofs.spent.is_spent.Tie as tie
 returns : tie.Need-returns
 returns c = λ tree values e lt. spent-given e _ _ (c .if1 .taken)
 
-last-of-requires : tie.Need-last-of-requires
-last-of-requires c κs = search needs
-
 returns-2 : tie.Need-returns-2
 returns-2 c = λ tree values e lt. spent-never e _ _ (c .before .before .if1 .left) lt (c .before .last-of .ensures) (c .if2 .taken)
 
@@ -17,4 +14,4 @@ returns-3 : tie.Need-returns-3
 returns-3 c = λ tree values e lt. spent-by e _ _ (c .before .before .if1 .left) lt (c .before .last-of .ensures) (c .if2 .left)
 
 pub is-spent-spec : {M : Type 1} → statement M
-is-spent-spec = tie.close (tie.spec returns last-of-requires returns-2 returns-3)
+is-spent-spec = tie.close (tie.spec returns (search needs) returns-2 returns-3)

@@ -25,17 +25,8 @@ abbrev μ-loop : tie.MeasureT-loop
 loop-holds : tie.Need-loop-holds Inv-loop μ-loop
 loop-holds c = λ tree values e below. record { below = below; same = refl }
 
-mul-r : tie.Need-mul-r Inv-loop μ-loop
-mul-r c = search needs
-
-shared-slice-read-r : tie.Need-shared-slice-read-r Inv-loop μ-loop
-shared-slice-read-r c = search needs
-
 cast-r : tie.Need-cast-r Inv-loop μ-loop
 cast-r c = omega (arith, c .shared-slice-known4 .given (c .before .before .loop .k))
-
-is-spent-requires : tie.Need-is-spent-requires Inv-loop μ-loop
-is-spent-requires c κs = search needs
 
 returns : tie.Need-returns Inv-loop μ-loop
 returns c =
@@ -43,12 +34,6 @@ returns c =
     let l = c .before .before .before in
     let g = l .before .loop .inv tree values e below in
     testing-stop g (l .loop-test .taken) (ap not (sym (c .if1 .taken) ∙ c .before .is-spent .ensures tree values e (small g (l .loop-test .taken))))
-
-add-k : tie.Need-add-k Inv-loop μ-loop
-add-k c = search needs
-
-loop-less : tie.Need-loop-less Inv-loop μ-loop
-loop-less c = search needs
 
 loop-again : tie.Need-loop-again Inv-loop μ-loop
 loop-again c =
@@ -61,18 +46,5 @@ returns-2 : tie.Need-returns-2 Inv-loop μ-loop
 returns-2 c = λ tree values e below. testing-end (c .before .loop .inv tree values e below) (c .loop-test .left)
 
 pub none-spent-spec : {M : Type 1} → statement M
-none-spent-spec =
-    tie.close
-    (tie.spec
-    Inv-loop
-    μ-loop
-    loop-holds
-    mul-r
-    shared-slice-read-r
-    cast-r
-    is-spent-requires
-    returns
-    add-k
-    loop-less
-    loop-again
-    returns-2)
+none-spent-spec = tie.close (tie.spec Inv-loop μ-loop loop-holds (search needs) (search needs) cast-r (search needs) returns
+    (search needs) (search needs) loop-again returns-2)

@@ -5,17 +5,11 @@ use borrow.Author.Needs.{needs}
 use Rattle.encoding.proofs.claims.end_at.Statement.{statement}
 use Rattle.encoding.proofs.claims.end_at.Tie as tie
 
-cell-from-requires : tie.Need-cell-from-requires
-cell-from-requires c κs = search needs
-
 returns : tie.Need-returns
 returns c = λ e p h. end-infinite e (c .if1 .taken) (c .before .cell-from .ensures .is ∙ p)
-
-value-from-requires : tie.Need-value-from-requires
-value-from-requires c κs = search needs
 
 returns-2 : tie.Need-returns-2
 returns-2 c = λ e p h. end-finite _ _ e (c .before .if1 .left) (c .before .before .cell-from .ensures .is ∙ p) (c .value-from .ensures) h
 
 pub end-at-spec : {M : Type 1} → statement M
-end-at-spec = tie.close (tie.spec cell-from-requires returns value-from-requires returns-2)
+end-at-spec = tie.close (tie.spec (search needs) returns (search needs) returns-2)

@@ -7,20 +7,8 @@ use borrow.Author.Needs.{needs}
 use Rattle.encoding.proofs.claims.end_of.Statement.{statement}
 use Rattle.encoding.proofs.claims.end_of.Tie as tie
 
-is-infeas-requires : tie.Need-is-infeas-requires
-is-infeas-requires c κs = search needs
-
 returns : tie.Need-returns
 returns c = λ x h. no-end _ x (sym (c .before .is-infeas .ensures x (claim-word _ _ _ _ x h)) ∙ c .if1 .taken)
-
-cell-from-requires : tie.Need-cell-from-requires
-cell-from-requires c κs = search needs
-
-end-at-requires : tie.Need-end-at-requires
-end-at-requires c κs = search needs
-
-end-at-requires-2 : tie.Need-end-at-requires-2
-end-at-requires-2 c κs = search needs
 
 returns-2 : tie.Need-returns-2
 returns-2 c =
@@ -37,13 +25,4 @@ returns-3 c =
     ∙ ap (λ (b : Bool). endIn b x) (sym (c .before .if2 .left))
 
 pub end-of-spec : {M : Type 1} → statement M
-end-of-spec =
-    tie.close
-    (tie.spec
-    is-infeas-requires
-    returns
-    cell-from-requires
-    end-at-requires
-    end-at-requires-2
-    returns-2
-    returns-3)
+end-of-spec = tie.close (tie.spec (search needs) returns (search needs) (search needs) (search needs) returns-2 returns-3)

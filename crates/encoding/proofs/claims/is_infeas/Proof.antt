@@ -5,11 +5,8 @@ use borrow.Author.Needs.{needs}
 use Rattle.encoding.proofs.claims.is_infeas.Statement.{statement}
 use Rattle.encoding.proofs.claims.is_infeas.Tie as tie
 
-cell-at-requires : tie.Need-cell-at-requires
-cell-at-requires c κs = search needs
-
 returns : tie.Need-returns
 returns c = λ x e. infeas-by x (c .cell-at .ensures .is ∙ e)
 
 pub is-infeas-spec : {M : Type 1} → statement M
-is-infeas-spec = tie.close (tie.spec cell-at-requires returns)
+is-infeas-spec = tie.close (tie.spec (search needs) returns)

@@ -9,12 +9,6 @@ use Rattle.encoding.proofs.reasons.after_word.Tie as tie
 returns : tie.Need-returns
 returns c = after-uns _ (c .if1 .taken)
 
-is-combined-requires : tie.Need-is-combined-requires
-is-combined-requires c κs = search needs
-
-add-result : tie.Need-add-result
-add-result c = search needs
-
 returns-2 : tie.Need-returns-2
 returns-2 c = after-other _ true (c .before .before .if1 .left) (sym (c .before .is-combined .ensures) ∙ c .if2 .taken)
 
@@ -22,4 +16,4 @@ returns-3 : tie.Need-returns-3
 returns-3 c = after-other _ false (c .before .before .if1 .left) (sym (c .before .is-combined .ensures) ∙ c .if2 .left)
 
 pub after-word-spec : {M : Type 1} → statement M
-after-word-spec = tie.close (tie.spec returns is-combined-requires add-result returns-2 returns-3)
+after-word-spec = tie.close (tie.spec returns (search needs) (search needs) returns-2 returns-3)

@@ -5,21 +5,6 @@ use native.Mathlib.Omega.{arith}
 use Rattle.encoding.proofs.reasons.multipliers_of.Statement.{statement}
 use Rattle.encoding.proofs.reasons.multipliers_of.Tie as tie
 
-entry-at-requires : tie.Need-entry-at-requires
-entry-at-requires c κs = search needs
-
-add-cell-at : tie.Need-add-cell-at
-add-cell-at c = search needs
-
-cell-at-requires : tie.Need-cell-at-requires
-cell-at-requires c κs = search needs
-
-own-terms-requires : tie.Need-own-terms-requires
-own-terms-requires c κs = search needs
-
-add-at : tie.Need-add-at
-add-at c = search needs
-
 add-at-2 : tie.Need-add-at-2
 add-at-2 c =
     let m = c .before in
@@ -32,17 +17,11 @@ add-at-3 c =
     let s = own-small (m .before .before .before .entry-at .ensures) (m .before .cell-at .ensures) (m .own-terms .ensures) in
     omega arith
 
-cell-at-requires-2 : tie.Need-cell-at-requires-2
-cell-at-requires-2 c κs = search needs
-
 add-t8 : tie.Need-add-t8
 add-t8 c =
     let m = c .before .before in
     let s = own-small (m .before .before .before .entry-at .ensures) (m .before .cell-at .ensures) (m .own-terms .ensures) in
     omega arith
-
-add-t9 : tie.Need-add-t9
-add-t9 c = search needs
 
 add-t10 : tie.Need-add-t10
 add-t10 c =
@@ -56,18 +35,5 @@ returns c =
     multipliers-are (m .before .before .before .entry-at .ensures) (m .before .cell-at .ensures) (m .own-terms .ensures) (c .before .cell-at2 .ensures)
 
 pub multipliers-of-spec : {M : Type 1} → statement M
-multipliers-of-spec =
-    tie.close
-    (tie.spec
-    entry-at-requires
-    add-cell-at
-    cell-at-requires
-    own-terms-requires
-    add-at
-    add-at-2
-    add-at-3
-    cell-at-requires-2
-    add-t8
-    add-t9
-    add-t10
-    returns)
+multipliers-of-spec = tie.close (tie.spec (search needs) (search needs) (search needs) (search needs) (search needs) add-at-2
+    add-at-3 (search needs) add-t8 (search needs) add-t10 returns)

@@ -7,29 +7,8 @@ use borrow.Author.Needs.{needs}
 use Rattle.encoding.proofs.reasons.named_by.Statement.{statement}
 use Rattle.encoding.proofs.reasons.named_by.Tie as tie
 
-reason-of-requires : tie.Need-reason-of-requires
-reason-of-requires c κs = search needs
-
-cell-at-requires : tie.Need-cell-at-requires
-cell-at-requires c κs = search needs
-
-add-cells-of : tie.Need-add-cells-of
-add-cells-of c = search needs
-
-cells-of-requires : tie.Need-cells-of-requires
-cells-of-requires c κs = search needs
-
 returns : tie.Need-returns
 returns c = c .cells-of .ensures ∙ named-uns (c .before .before .before .reason-of .ensures) (c .before .before .cell-at .ensures) (c .before .if1 .taken)
-
-is-combined-requires : tie.Need-is-combined-requires
-is-combined-requires c κs = search needs
-
-multipliers-of-requires : tie.Need-multipliers-of-requires
-multipliers-of-requires c κs = search needs
-
-indices-of-requires : tie.Need-indices-of-requires
-indices-of-requires c κs = search needs
 
 returns-2 : tie.Need-returns-2
 returns-2 c =
@@ -40,9 +19,6 @@ returns-2 c =
     ∙ ap (indicesAt (s .args .index .now)) (c .before .multipliers-of .ensures)
     ∙ named-other (m .before .reason-of .ensures) (m .cell-at .ensures) true (t .before .if1 .left) (sym (t .is-combined .ensures) ∙ c .before .before .if2 .taken)
 
-slice-aggregate-result : tie.Need-slice-aggregate-result
-slice-aggregate-result c = search needs
-
 returns-3 : tie.Need-returns-3
 returns-3 c =
     let t = c .before .before in
@@ -50,17 +26,5 @@ returns-3 c =
     named-other (m .before .reason-of .ensures) (m .cell-at .ensures) false (t .before .if1 .left) (sym (t .is-combined .ensures) ∙ c .before .if2 .left)
 
 pub named-by-spec : {M : Type 1} → statement M
-named-by-spec =
-    tie.close
-    (tie.spec
-    reason-of-requires
-    cell-at-requires
-    add-cells-of
-    cells-of-requires
-    returns
-    is-combined-requires
-    multipliers-of-requires
-    indices-of-requires
-    returns-2
-    slice-aggregate-result
-    returns-3)
+named-by-spec = tie.close (tie.spec (search needs) (search needs) (search needs) (search needs) returns (search needs)
+    (search needs) (search needs) returns-2 (search needs) returns-3)

@@ -6,12 +6,6 @@ use borrow.Author.Needs.{needs}
 use Rattle.encoding.proofs.reasons.word_of.Statement.{statement}
 use Rattle.encoding.proofs.reasons.word_of.Tie as tie
 
-reason-of-requires : tie.Need-reason-of-requires
-reason-of-requires c κs = search needs
-
-cell-at-requires : tie.Need-cell-at-requires
-cell-at-requires c κs = search needs
-
 returns : tie.Need-returns
 returns c = λ x e. word-by asmWord x (c .if1 .taken) (word-is (c .before .before .reason-of .ensures) (c .before .cell-at .ensures) ∙ e)
 
@@ -36,6 +30,4 @@ returns-5 c =
     λ x e. word-other x (c .before .before .before .if1 .left) (c .before .before .if2 .left) (c .before .if3 .left) (c .if4 .left) (word-is (m .before .reason-of .ensures) (m .cell-at .ensures) ∙ e)
 
 pub word-of-spec : {M : Type 1} → statement M
-word-of-spec =
-    tie.close
-    (tie.spec reason-of-requires cell-at-requires returns returns-2 returns-3 returns-4 returns-5)
+word-of-spec = tie.close (tie.spec (search needs) (search needs) returns returns-2 returns-3 returns-4 returns-5)

@@ -4,17 +4,8 @@ use borrow.Author.Needs.{needs}
 use Rattle.encoding.proofs.rows.sense_at.Statement.{statement}
 use Rattle.encoding.proofs.rows.sense_at.Tie as tie
 
-entry-at-requires : tie.Need-entry-at-requires
-entry-at-requires c κs = search needs
-
-cell-at-requires : tie.Need-cell-at-requires
-cell-at-requires c κs = search needs
-
-sense-of-requires : tie.Need-sense-of-requires
-sense-of-requires c κs = search needs
-
 returns : tie.Need-returns
 returns c = λ tree values objective row k. sense-found (c .sense-of .result) (c .before .before .entry-at .ensures) (c .before .cell-at .ensures) (c .sense-of .ensures) k
 
 pub sense-at-spec : {M : Type 1} → statement M
-sense-at-spec = tie.close (tie.spec entry-at-requires cell-at-requires sense-of-requires returns)
+sense-at-spec = tie.close (tie.spec (search needs) (search needs) (search needs) returns)

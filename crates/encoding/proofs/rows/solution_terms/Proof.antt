@@ -6,19 +6,10 @@ use borrow.Author.Needs.{needs}
 use Rattle.encoding.proofs.rows.solution_terms.Statement.{statement}
 use Rattle.encoding.proofs.rows.solution_terms.Tie as tie
 
-solution-at-requires : tie.Need-solution-at-requires
-solution-at-requires c κs = search needs
-
-cell-at-requires : tie.Need-cell-at-requires
-cell-at-requires c κs = search needs
-
-add-t6 : tie.Need-add-t6
-add-t6 c = search needs
-
 returns : tie.Need-returns
 returns c =
     let a = c .before .before .before .before .before .args in
     pairs-at (a .index .now) (a .rows .now) (mostRows + a .j) (c .before .before .solution-at .ensures) (c .before .cell-at .ensures)
 
 pub solution-terms-spec : {M : Type 1} → statement M
-solution-terms-spec = tie.close (tie.spec solution-at-requires cell-at-requires add-t6 returns)
+solution-terms-spec = tie.close (tie.spec (search needs) (search needs) (search needs) returns)

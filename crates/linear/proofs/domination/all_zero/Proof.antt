@@ -25,28 +25,13 @@ abbrev μ-loop : tie.MeasureT-loop
 inside : (c : tie.In-loop Inv-loop μ-loop) → let a = c .before .before .before .before .args in c .before .loop .k < pairsIn (a .variables .now) (a .parts .now)
 inside c = subst (λ (n : ℕ). c .before .loop .k < n) (c .before .before .pairs-in .ensures) (c .loop-test .taken)
 
-pairs-in-requires : tie.Need-pairs-in-requires Inv-loop μ-loop
-pairs-in-requires c κs = search needs
-
 loop-holds : tie.Need-loop-holds Inv-loop μ-loop
 loop-holds c = refl
-
-value-at-requires : tie.Need-value-at-requires Inv-loop μ-loop
-value-at-requires c κs = search needs
-
-is-zero-requires : tie.Need-is-zero-requires Inv-loop μ-loop
-is-zero-requires c κs = search needs
 
 returns : tie.Need-returns Inv-loop μ-loop
 returns c =
     let l = c .before .before .before in
     tests-stop _ (l .before .loop .inv) (listed-next aTerm _ _ _ (inside l)) (c .before .is-zero .ensures ∙ ap (λ (f : Fraction). isZero (exact f)) (c .before .before .value-at .ensures)) (not-true _ (c .if1 .taken))
-
-add-k : tie.Need-add-k Inv-loop μ-loop
-add-k c = search needs
-
-loop-less : tie.Need-loop-less Inv-loop μ-loop
-loop-less c = search needs
 
 loop-again : tie.Need-loop-again Inv-loop μ-loop
 loop-again c =
@@ -57,17 +42,5 @@ returns-2 : tie.Need-returns-2 Inv-loop μ-loop
 returns-2 c = tests-end _ (c .before .loop .inv) (listed-none aTerm _ _ _ (subst (λ (n : ℕ). n ≤ c .before .loop .k) (c .before .before .pairs-in .ensures) (c .loop-test .left)))
 
 pub all-zero-spec : {M : Type 1} → statement M
-all-zero-spec =
-    tie.close
-    (tie.spec
-    Inv-loop
-    μ-loop
-    pairs-in-requires
-    loop-holds
-    value-at-requires
-    is-zero-requires
-    returns
-    add-k
-    loop-less
-    loop-again
-    returns-2)
+all-zero-spec = tie.close (tie.spec Inv-loop μ-loop (search needs) loop-holds (search needs) (search needs) returns
+    (search needs) (search needs) loop-again returns-2)

@@ -10,12 +10,6 @@ use Rattle.linear.proofs.Counting.{none-counted}
 use Rattle.linear.proofs.domination.compare.Statement.{statement}
 use Rattle.linear.proofs.domination.compare.Tie as tie
 
-nonzeros-requires : tie.Need-nonzeros-requires
-nonzeros-requires c κs = search needs
-
-same-terms-requires : tie.Need-same-terms-requires
-same-terms-requires c κs = search needs
-
 returns : tie.Need-returns
 returns c =
     λ formed are.
@@ -24,4 +18,4 @@ returns c =
     record { same = c .same-terms .ensures _ formed are many; zero = ap (λ (k : ℕ). eqb k 0) many ∙ none-counted (λ v. isZero (exact (coefficientsOf (a .nums .now) (a .dens .now) v))) (a .n) }
 
 pub compare-spec : {M : Type 1} → statement M
-compare-spec = tie.close (tie.spec nonzeros-requires same-terms-requires returns)
+compare-spec = tie.close (tie.spec (search needs) (search needs) returns)

@@ -14,12 +14,6 @@ use Rattle.linear.proofs.Truth.{and-first, and-neither}
 use Rattle.linear.proofs.domination.is_absurd.Statement.{statement}
 use Rattle.linear.proofs.domination.is_absurd.Tie as tie
 
-fails-at-zero-requires : tie.Need-fails-at-zero-requires
-fails-at-zero-requires c κs = search needs
-
-all-zero-requires : tie.Need-all-zero-requires
-all-zero-requires c κs = search needs
-
 returns : tie.Need-returns
 unfolding isAbsurd
 returns c =
@@ -36,4 +30,4 @@ returns-2 c =
     and-neither (everyBelow n (λ v. isZero (exact (valueIn (termsIn (a .variables .now) (a .parts .now)) v)))) (c .before .fails-at-zero .ensures) (c .if1 .left)
 
 pub is-absurd-spec : {M : Type 1} → statement M
-is-absurd-spec = tie.close (tie.spec fails-at-zero-requires all-zero-requires returns returns-2)
+is-absurd-spec = tie.close (tie.spec (search needs) (search needs) returns returns-2)

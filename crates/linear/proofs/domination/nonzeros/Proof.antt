@@ -17,9 +17,6 @@ abbrev μ-loop : tie.MeasureT-loop
 inside : (c : tie.In-loop Inv-loop μ-loop) → c .before .loop .v < min (c .before .before .before .args .n) 256
 inside c = omega (arith, c .loop-test .taken, c .before .before .in-arrays .ensures)
 
-in-arrays-requires : tie.Need-in-arrays-requires Inv-loop μ-loop
-in-arrays-requires c κs = search needs
-
 loop-holds : tie.Need-loop-holds Inv-loop μ-loop
 loop-holds c = record { few = omega arith; small = omega arith; same = refl }
 
@@ -32,12 +29,6 @@ element-copy-out-if1 c = omega (arith, inside c)
 add-count : tie.Need-add-count Inv-loop μ-loop
 add-count c = omega (arith, c .before .before .before .loop .inv .small, inside (c .before .before))
 
-add-v : tie.Need-add-v Inv-loop μ-loop
-add-v c = search needs
-
-loop-less : tie.Need-loop-less Inv-loop μ-loop
-loop-less c = search needs
-
 loop-again : tie.Need-loop-again Inv-loop μ-loop
 loop-again c =
     let l = c .before .before in
@@ -48,17 +39,5 @@ returns : tie.Need-returns Inv-loop μ-loop
 returns c = λ dens. counted-end (c .before .loop .inv) (omega (arith, c .loop-test .left, c .before .before .in-arrays .ensures)) dens
 
 pub nonzeros-spec : {M : Type 1} → statement M
-nonzeros-spec =
-    tie.close
-    (tie.spec
-    Inv-loop
-    μ-loop
-    in-arrays-requires
-    loop-holds
-    mul-if1
-    element-copy-out-if1
-    add-count
-    add-v
-    loop-less
-    loop-again
-    returns)
+nonzeros-spec = tie.close (tie.spec Inv-loop μ-loop (search needs) loop-holds mul-if1 element-copy-out-if1 add-count
+    (search needs) (search needs) loop-again returns)

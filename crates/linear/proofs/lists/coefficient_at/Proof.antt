@@ -14,18 +14,6 @@ use Rattle.linear.proofs.lists.coefficient_at.Tie as tie
 returns : tie.Need-returns
 returns c = let a = c .before .args in coefficient-beyond (a .nums .now) (a .dens .now) (a .v) (c .if1 .taken)
 
-mul-num : tie.Need-mul-num
-mul-num c = search needs
-
-element-copy-out-num : tie.Need-element-copy-out-num
-element-copy-out-num c = search needs
-
-mul-den : tie.Need-mul-den
-mul-den c = search needs
-
-element-copy-out-den : tie.Need-element-copy-out-den
-element-copy-out-den c = search needs
-
 returns-2 : tie.Need-returns-2
 returns-2 c =
     let a = c .before .before .before .before .args in
@@ -39,13 +27,5 @@ returns-3 c =
     ∙ read-some (a .nums .now) (a .dens .now) (a .v) (c .before .before .before .if1 .left) (λ e. c .if2 .left (ap (ofZ w32) e))
 
 pub coefficient-at-spec : {M : Type 1} → statement M
-coefficient-at-spec =
-    tie.close
-    (tie.spec
-    returns
-    mul-num
-    element-copy-out-num
-    mul-den
-    element-copy-out-den
-    returns-2
+coefficient-at-spec = tie.close (tie.spec returns (search needs) (search needs) (search needs) (search needs) returns-2
     returns-3)

@@ -14,14 +14,8 @@ Inv-loop variables parts nums₀ dens₀ left₀ nums dens left = Spread variabl
 abbrev μ-loop : tie.MeasureT-loop
 μ-loop variables parts nums₀ dens₀ left₀ nums dens left = left
 
-pairs-in-requires : tie.Need-pairs-in-requires Inv-loop μ-loop
-pairs-in-requires c κs = search needs
-
 loop-holds : tie.Need-loop-holds Inv-loop μ-loop
 loop-holds c = spread-start _ _ _ (c .pairs-in .ensures)
-
-sub-left : tie.Need-sub-left Inv-loop μ-loop
-sub-left c = search needs
 
 mul-v : tie.Need-mul-v Inv-loop μ-loop
 mul-v c = omega (arith, c .before .loop .inv .few)
@@ -35,30 +29,12 @@ cast-v c = omega (arith, c .shared-slice-known2 .given (c .before .before .loop 
 value-at-requires : tie.Need-value-at-requires Inv-loop μ-loop
 value-at-requires c κs = omega (arith, c .before .before .before .loop .inv .few, c .before .before .loop-test .taken)
 
-mul-nums : tie.Need-mul-nums Inv-loop μ-loop
-mul-nums c = search needs
-
-array-set-from-nums : tie.Need-array-set-from-nums Inv-loop μ-loop
-array-set-from-nums c = search needs
-
-mul-dens : tie.Need-mul-dens Inv-loop μ-loop
-mul-dens c = search needs
-
-array-set-from-dens : tie.Need-array-set-from-dens Inv-loop μ-loop
-array-set-from-dens c = search needs
-
-loop-less : tie.Need-loop-less Inv-loop μ-loop
-loop-less c = search needs
-
 loop-again : tie.Need-loop-again Inv-loop μ-loop
 loop-again c =
     let w = c .before .before in
     let l = w .before .before .before in
     spread-on _ _ (l .before .loop .inv) (l .loop-test .taken) _ _
     (ap₂ aFraction (back-of _ (c .before .struct-told .given .0 .1)) (back-of _ (c .struct-told2 .given .1 .0 .1)) ∙ w .value-at .ensures) (w .before .if1 .taken)
-
-loop-less-2 : tie.Need-loop-less-2 Inv-loop μ-loop
-loop-less-2 c = search needs
 
 loop-again-2 : tie.Need-loop-again-2 Inv-loop μ-loop
 loop-again-2 c = spread-over _ _ (c .before .before .before .loop .inv) (c .before .before .loop-test .taken) (c .if1 .left)
@@ -67,24 +43,6 @@ returns : tie.Need-returns Inv-loop μ-loop
 returns c = spread-end _ _ (c .before .loop .inv) (c .loop-test .left)
 
 pub coefficients-of-spec : {M : Type 1} → statement M
-coefficients-of-spec =
-    tie.close
-    (tie.spec
-    Inv-loop
-    μ-loop
-    pairs-in-requires
-    loop-holds
-    sub-left
-    mul-v
-    shared-slice-read-v
-    cast-v
-    value-at-requires
-    mul-nums
-    array-set-from-nums
-    mul-dens
-    array-set-from-dens
-    loop-less
-    loop-again
-    loop-less-2
-    loop-again-2
-    returns)
+coefficients-of-spec = tie.close (tie.spec Inv-loop μ-loop (search needs) loop-holds (search needs) mul-v shared-slice-read-v
+    cast-v value-at-requires (search needs) (search needs) (search needs) (search needs) (search needs) loop-again
+    (search needs) loop-again-2 returns)

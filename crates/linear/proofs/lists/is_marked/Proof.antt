@@ -5,9 +5,6 @@ use Rattle.linear.specs.Coefficients.{marked}
 use Rattle.linear.proofs.lists.is_marked.Statement.{statement}
 use Rattle.linear.proofs.lists.is_marked.Tie as tie
 
-element-copy-out-result : tie.Need-element-copy-out-result
-element-copy-out-result c = search needs
-
 returns : tie.Need-returns
 unfolding marked
 returns c = rw (lt-ltb (c .before .before .args .v) 256 (c .before .if1 .taken))
@@ -17,4 +14,4 @@ unfolding marked
 returns-2 c = rw (le-ltb (c .before .args .v) 256 (c .if1 .left))
 
 pub is-marked-spec : {M : Type 1} → statement M
-is-marked-spec = tie.close (tie.spec element-copy-out-result returns returns-2)
+is-marked-spec = tie.close (tie.spec (search needs) returns returns-2)

@@ -19,32 +19,11 @@ abbrev μ-loop : tie.MeasureT-loop
 inside : (c : tie.In-loop Inv-loop μ-loop) → let a = c .before .before .before .before .args in c .before .loop .k < pairsIn (a .variables .now) (a .parts .now)
 inside c = subst (λ (n : ℕ). c .before .loop .k < n) (c .before .before .pairs-in .ensures) (c .loop-test .taken)
 
-pairs-in-requires : tie.Need-pairs-in-requires Inv-loop μ-loop
-pairs-in-requires c κs = search needs
-
 loop-holds : tie.Need-loop-holds Inv-loop μ-loop
 loop-holds c = adding _ _ _
 
-mul-v : tie.Need-mul-v Inv-loop μ-loop
-mul-v c = search needs
-
-shared-slice-read-v : tie.Need-shared-slice-read-v Inv-loop μ-loop
-shared-slice-read-v c = search needs
-
 cast-v : tie.Need-cast-v Inv-loop μ-loop
 cast-v c = omega (arith, c .shared-slice-known2 .given (c .before .before .loop .k))
-
-value-at-requires : tie.Need-value-at-requires Inv-loop μ-loop
-value-at-requires c κs = search needs
-
-coefficient-at-requires : tie.Need-coefficient-at-requires Inv-loop μ-loop
-coefficient-at-requires c κs = search needs
-
-plus-product-requires : tie.Need-plus-product-requires Inv-loop μ-loop
-plus-product-requires c κs = search needs
-
-enum-known-next : tie.Need-enum-known-next Inv-loop μ-loop
-enum-known-next c = search needs
 
 returns : tie.Need-returns Inv-loop μ-loop
 returns c =
@@ -53,12 +32,6 @@ returns c =
     let l = w .before .before .before .before in
     adding-stop _ _ _ (l .before .loop .inv) (inside l) (w .before .before .value-at .ensures) (w .before .coefficient-at .ensures) (w .plus-product .result) (w .plus-product .ensures) (c .match .keys2) (record { terms-below = below; fractions = are; place = place })
     ∙ left-side _ _ _ (record { terms-below = below; fractions = are; place = place }) point e
-
-add-k : tie.Need-add-k Inv-loop μ-loop
-add-k c = search needs
-
-loop-less : tie.Need-loop-less Inv-loop μ-loop
-loop-less c = search needs
 
 loop-again : tie.Need-loop-again Inv-loop μ-loop
 loop-again c =
@@ -73,22 +46,5 @@ returns-2 c =
     ∙ left-side _ _ _ (record { terms-below = below; fractions = are; place = place }) point e
 
 pub left-of-spec : {M : Type 1} → statement M
-left-of-spec =
-    tie.close
-    (tie.spec
-    Inv-loop
-    μ-loop
-    pairs-in-requires
-    loop-holds
-    mul-v
-    shared-slice-read-v
-    cast-v
-    value-at-requires
-    coefficient-at-requires
-    plus-product-requires
-    enum-known-next
-    returns
-    add-k
-    loop-less
-    loop-again
-    returns-2)
+left-of-spec = tie.close (tie.spec Inv-loop μ-loop (search needs) loop-holds (search needs) (search needs) cast-v (search needs)
+    (search needs) (search needs) (search needs) returns (search needs) (search needs) loop-again returns-2)

@@ -9,9 +9,6 @@ use Rattle.linear.proofs.Truth.{and-yes, and-no}
 use Rattle.linear.proofs.rounding.can_be_rounded.Statement.{statement}
 use Rattle.linear.proofs.rounding.can_be_rounded.Tie as tie
 
-same-sense-requires : tie.Need-same-sense-requires
-same-sense-requires c κs = search needs
-
 returns : tie.Need-returns
 unfolding canBeRounded
 returns c =
@@ -25,4 +22,4 @@ returns-2 c =
     integral ∙ and-yes (isIntegral tree d) (ap not (c .before .same-sense .ensures ∙ ap (λ (s : Sense). sameSense s equal) (sym e))) (ap not (c .if1 .left))
 
 pub can-be-rounded-spec : {M : Type 1} → statement M
-can-be-rounded-spec = tie.close (tie.spec same-sense-requires returns returns-2)
+can-be-rounded-spec = tie.close (tie.spec (search needs) returns returns-2)

@@ -22,20 +22,8 @@ tested : (c : tie.After-may-stand Inv-loop μ-loop)
     → let i = c .before .before .before .before in let a = i .before .before .args in c .may-stand .result ≡ integralAt (coefficientsOf (a .nums .now) (a .dens .now)) (a .integers .now) (i .loop .v)
 tested c = c .may-stand .ensures ∙ ap₂ mayStand (c .before .before .coefficient-at .ensures) (c .before .is-marked .ensures)
 
-in-arrays-requires : tie.Need-in-arrays-requires Inv-loop μ-loop
-in-arrays-requires c κs = search needs
-
 loop-holds : tie.Need-loop-holds Inv-loop μ-loop
 loop-holds c = refl
-
-coefficient-at-requires : tie.Need-coefficient-at-requires Inv-loop μ-loop
-coefficient-at-requires c κs = search needs
-
-is-marked-requires : tie.Need-is-marked-requires Inv-loop μ-loop
-is-marked-requires c κs = search needs
-
-may-stand-requires : tie.Need-may-stand-requires Inv-loop μ-loop
-may-stand-requires c κs = search needs
 
 returns : tie.Need-returns Inv-loop μ-loop
 returns c =
@@ -46,12 +34,6 @@ returns c =
     (every-stop (integralAt (coefficientsOf (a .nums .now) (a .dens .now)) (a .integers .now)) (a .n) (i .loop .v)
     (omega (arith, c .before .before .before .before .loop-test .taken, i .before .in-arrays .ensures)) (sym (tested (c .before)) ∙ not-true _ (c .if1 .taken)))
     ∙ integral-is tree _ _ are d _ e
-
-add-v : tie.Need-add-v Inv-loop μ-loop
-add-v c = search needs
-
-loop-less : tie.Need-loop-less Inv-loop μ-loop
-loop-less c = search needs
 
 loop-again : tie.Need-loop-again Inv-loop μ-loop
 loop-again c =
@@ -70,18 +52,5 @@ returns-2 c =
     ∙ integral-is tree _ _ are d _ e
 
 pub is-integral-spec : {M : Type 1} → statement M
-is-integral-spec =
-    tie.close
-    (tie.spec
-    Inv-loop
-    μ-loop
-    in-arrays-requires
-    loop-holds
-    coefficient-at-requires
-    is-marked-requires
-    may-stand-requires
-    returns
-    add-v
-    loop-less
-    loop-again
-    returns-2)
+is-integral-spec = tie.close (tie.spec Inv-loop μ-loop (search needs) loop-holds (search needs) (search needs) (search needs)
+    returns (search needs) (search needs) loop-again returns-2)

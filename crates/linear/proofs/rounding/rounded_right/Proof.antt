@@ -7,27 +7,6 @@ use Rattle.linear.proofs.RoundingLaws.{rounded-to, not-rounded}
 use Rattle.linear.proofs.rounding.rounded_right.Statement.{statement}
 use Rattle.linear.proofs.rounding.rounded_right.Tie as tie
 
-enum-told : tie.Need-enum-told
-enum-told c = search needs
-
-enum-told-2 : tie.Need-enum-told-2
-enum-told-2 c = search needs
-
-floor-requires : tie.Need-floor-requires
-floor-requires c κs = search needs
-
-with-rounding-requires : tie.Need-with-rounding-requires
-with-rounding-requires c κs = search needs
-
-enum-told-3 : tie.Need-enum-told-3
-enum-told-3 c = search needs
-
-ceiling-requires : tie.Need-ceiling-requires
-ceiling-requires c κs = search needs
-
-with-rounding-requires-2 : tie.Need-with-rounding-requires-2
-with-rounding-requires-2 c κs = search needs
-
 returns : tie.Need-returns
 returns c = λ v. not-rounded (senseIs (c .before .before .args .sense)) _ (ap senseIs (c .enum-told .given .1)) v
 
@@ -44,16 +23,5 @@ returns-3 c =
     (c .with-rounding2 .ensures ∙ ap (withRounding _) (c .before .ceiling .ensures v)) v
 
 pub rounded-right-spec : {M : Type 1} → statement M
-rounded-right-spec =
-    tie.close
-    (tie.spec
-    enum-told
-    enum-told-2
-    floor-requires
-    with-rounding-requires
-    enum-told-3
-    ceiling-requires
-    with-rounding-requires-2
-    returns
-    returns-2
-    returns-3)
+rounded-right-spec = tie.close (tie.spec (search needs) (search needs) (search needs) (search needs) (search needs)
+    (search needs) (search needs) returns returns-2 returns-3)

@@ -10,15 +10,6 @@ use Rattle.linear.proofs.Numbers.{is-number}
 use Rattle.linear.proofs.senses.fails_at_zero.Statement.{statement}
 use Rattle.linear.proofs.senses.fails_at_zero.Tie as tie
 
-enum-told : tie.Need-enum-told
-enum-told c = search needs
-
-enum-told-2 : tie.Need-enum-told-2
-enum-told-2 c = search needs
-
-enum-told-3 : tie.Need-enum-told-3
-enum-told-3 c = search needs
-
 returns : tie.Need-returns
 returns c = rw (c .enum-told .given .1) (ap not (is-number (c .before .before .before .args .right .num) 0 (c .before .before .struct-told .given .0 .1) (omega arith)))
 
@@ -29,5 +20,4 @@ returns-3 : tie.Need-returns-3
 returns-3 c = rw (c .enum-told3 .given .1) (ap (ltZ (pos 0)) (back-of (c .before .before .before .args .right .num) (c .before .before .struct-told .given .0 .1)))
 
 pub fails-at-zero-spec : {M : Type 1} → statement M
-fails-at-zero-spec =
-    tie.close (tie.spec enum-told enum-told-2 enum-told-3 returns returns-2 returns-3)
+fails-at-zero-spec = tie.close (tie.spec (search needs) (search needs) (search needs) returns returns-2 returns-3)

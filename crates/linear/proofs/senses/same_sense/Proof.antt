@@ -5,14 +5,8 @@ use lib.Dec.{eqb}
 use Rattle.linear.proofs.senses.same_sense.Statement.{statement}
 use Rattle.linear.proofs.senses.same_sense.Tie as tie
 
-sense-cell-requires : tie.Need-sense-cell-requires
-sense-cell-requires c κs = search needs
-
-sense-cell-requires-2 : tie.Need-sense-cell-requires-2
-sense-cell-requires-2 c κs = search needs
-
 returns : tie.Need-returns
 returns c = ap₂ eqb (c .before .sense-cell .ensures) (c .sense-cell2 .ensures)
 
 pub same-sense-spec : {M : Type 1} → statement M
-same-sense-spec = tie.close (tie.spec sense-cell-requires sense-cell-requires-2 returns)
+same-sense-spec = tie.close (tie.spec (search needs) (search needs) returns)

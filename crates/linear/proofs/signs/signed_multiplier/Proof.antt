@@ -10,17 +10,8 @@ use Rattle.linear.proofs.signs.signed_multiplier.Tie as tie
 cast-n : tie.Need-cast-n
 cast-n c = cast-fits (c .before .args .factor .num) (c .struct-told .given .0 .1)
 
-enum-told : tie.Need-enum-told
-enum-told c = search needs
-
-enum-told-2 : tie.Need-enum-told-2
-enum-told-2 c = search needs
-
 sub-result : tie.Need-sub-result
 sub-result c = negated-fits (c .before .before .before .args .factor .num) (c .before .before .struct-told .given .0 .1)
-
-enum-told-3 : tie.Need-enum-told-3
-enum-told-3 c = search needs
 
 returns : tie.Need-returns
 returns c = rw (c .enum-told .given .1) (sym (*ℤ-zero (c .before .before .before .args .factor .num)))
@@ -32,6 +23,5 @@ returns-3 : tie.Need-returns-3
 returns-3 c = rw (c .enum-told3 .given .1) (copied (c .before .before .before .args .factor .num) (c .before .before .struct-told .given .0 .1) ∙ sym (*ℤ-pos-one (c .before .before .before .args .factor .num)))
 
 pub signed-multiplier-spec : {M : Type 1} → statement M
-signed-multiplier-spec =
-    tie.close
-    (tie.spec cast-n enum-told enum-told-2 sub-result enum-told-3 returns returns-2 returns-3)
+signed-multiplier-spec = tie.close (tie.spec cast-n (search needs) (search needs) sub-result (search needs) returns returns-2
+    returns-3)

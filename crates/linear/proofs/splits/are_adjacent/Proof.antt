@@ -5,15 +5,6 @@ use Rattle.linear.proofs.Truth.{and-yes, and-no}
 use Rattle.linear.proofs.splits.are_adjacent.Statement.{statement}
 use Rattle.linear.proofs.splits.are_adjacent.Tie as tie
 
-same-sense-requires : tie.Need-same-sense-requires
-same-sense-requires c κs = search needs
-
-same-sense-requires-2 : tie.Need-same-sense-requires-2
-same-sense-requires-2 c κs = search needs
-
-are-next-requires : tie.Need-are-next-requires
-are-next-requires c κs = search needs
-
 returns : tie.Need-returns
 returns c =
     λ f g.
@@ -31,12 +22,4 @@ returns-3 : tie.Need-returns-3
 returns-3 c = λ f g. and-no _ (and-no _ (c .before .same-sense .ensures) (c .if1 .left)) refl
 
 pub are-adjacent-spec : {M : Type 1} → statement M
-are-adjacent-spec =
-    tie.close
-    (tie.spec
-    same-sense-requires
-    same-sense-requires-2
-    are-next-requires
-    returns
-    returns-2
-    returns-3)
+are-adjacent-spec = tie.close (tie.spec (search needs) (search needs) (search needs) returns returns-2 returns-3)

@@ -7,12 +7,6 @@ use Rattle.linear.proofs.Numbers.{cast-fits, sum-fits, is-next}
 use Rattle.linear.proofs.splits.are_next.Statement.{statement}
 use Rattle.linear.proofs.splits.are_next.Tie as tie
 
-is-whole-requires : tie.Need-is-whole-requires
-is-whole-requires c κs = search needs
-
-is-whole-requires-2 : tie.Need-is-whole-requires-2
-is-whole-requires-2 c κs = search needs
-
 cast-result : tie.Need-cast-result
 cast-result c = cast-fits (c .before .before .before .before .before .before .args .b .num) (c .struct-told2 .given .0 .1)
 
@@ -39,14 +33,5 @@ returns-3 : tie.Need-returns-3
 returns-3 c = and-no _ (c .before .is-whole .ensures) (c .if1 .left)
 
 pub are-next-spec : {M : Type 1} → statement M
-are-next-spec =
-    tie.close
-    (tie.spec
-    is-whole-requires
-    is-whole-requires-2
-    cast-result
-    cast-result-2
-    add-result
-    returns
-    returns-2
+are-next-spec = tie.close (tie.spec (search needs) (search needs) cast-result cast-result-2 add-result returns returns-2
     returns-3)

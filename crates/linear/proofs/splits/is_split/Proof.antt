@@ -36,32 +36,17 @@ adjacent-is c =
     let s = c .before .before .before .before in
     ap₂ _||_ (c .before .are-adjacent .ensures (valueIn (terms s)) (valueIn (terms2 s))) (c .are-adjacent2 .ensures (valueIn (terms2 s)) (valueIn (terms s)))
 
-are-adjacent-requires : tie.Need-are-adjacent-requires
-are-adjacent-requires c κs = search needs
-
-are-adjacent-requires-2 : tie.Need-are-adjacent-requires-2
-are-adjacent-requires-2 c κs = search needs
-
 returns : tie.Need-returns
 returns c =
     λ tree are few formed formed2.
     let s = c .before .before .before .before .before in
     not-adjacent tree (row s) (row2 s) (adjacent-is (c .before)) (not-true _ (c .if1 .taken))
 
-are-integral-requires : tie.Need-are-integral-requires
-are-integral-requires c κs = search needs
-
 returns-2 : tie.Need-returns-2
 returns-2 c =
     λ tree are few formed formed2.
     let s = c .before .before .before .before .before .before .before in
     not-integral tree (row s) (row2 s) (c .before .are-integral .ensures tree _ are formed (row s) refl) (not-true _ (c .if2 .taken))
-
-coefficients-of-requires : tie.Need-coefficients-of-requires
-coefficients-of-requires c κs = search needs
-
-compare-requires : tie.Need-compare-requires
-compare-requires c κs = search needs
 
 returns-3 : tie.Need-returns-3
 returns-3 c =
@@ -76,14 +61,5 @@ returns-3 c =
     ∙ split-by tree (row s) (row2 s) (i .are-integral .ensures tree _ are formed (row s) refl) (not-false _ (k .before .if2 .left)) (adjacent-is a) (not-false _ (i .before .if1 .left))
 
 pub is-split-spec : {M : Type 1} → statement M
-is-split-spec =
-    tie.close
-    (tie.spec
-    are-adjacent-requires
-    are-adjacent-requires-2
-    returns
-    are-integral-requires
-    returns-2
-    coefficients-of-requires
-    compare-requires
+is-split-spec = tie.close (tie.spec (search needs) (search needs) returns (search needs) returns-2 (search needs) (search needs)
     returns-3)

@@ -5,21 +5,6 @@ use Rattle.linear.proofs.Numbers.{passed}
 use Rattle.linear.proofs.values.is_at_most.Statement.{statement}
 use Rattle.linear.proofs.values.is_at_most.Tie as tie
 
-compare-requires : tie.Need-compare-requires
-compare-requires c κs = search needs
-
-enum-told : tie.Need-enum-told
-enum-told c = search needs
-
-enum-told-2 : tie.Need-enum-told-2
-enum-told-2 c = search needs
-
-enum-told-3 : tie.Need-enum-told-3
-enum-told-3 c = search needs
-
-enum-told-4 : tie.Need-enum-told-4
-enum-told-4 c = search needs
-
 returns : tie.Need-returns
 returns c = λ v w. passed notGreater (c .before .before .compare .ensures v w) (c .enum-told .given .1)
 
@@ -33,15 +18,5 @@ returns-4 : tie.Need-returns-4
 returns-4 c = λ v w. passed notGreater (c .before .before .compare .ensures v w) (c .enum-told4 .given .1)
 
 pub is-at-most-spec : {M : Type 1} → statement M
-is-at-most-spec =
-    tie.close
-    (tie.spec
-    compare-requires
-    enum-told
-    enum-told-2
-    enum-told-3
-    enum-told-4
-    returns
-    returns-2
-    returns-3
-    returns-4)
+is-at-most-spec = tie.close (tie.spec (search needs) (search needs) (search needs) (search needs) (search needs) returns
+    returns-2 returns-3 returns-4)

@@ -14,9 +14,6 @@ in-two : (place : ℕ) (sum : Fraction) (product : Outcome Fraction) → within1
 in-two place sum (gives p) = refl
 in-two place sum (refuses n) = refl
 
-add-product-requires : tie.Need-add-product-requires
-add-product-requires c κs = search needs
-
 returns : tie.Need-returns
 returns c =
     λ u v w place.
@@ -24,4 +21,4 @@ returns c =
     ap (within12 place) (c .add-product .ensures u v w) ∙ in-two place (s .args .sum) (productOf (s .args .a) (s .args .b))
 
 pub plus-product-spec : {M : Type 1} → statement M
-plus-product-spec = tie.close (tie.spec add-product-requires returns)
+plus-product-spec = tie.close (tie.spec (search needs) returns)

@@ -5,23 +5,8 @@ use Rattle.reader.proofs.documents.read_end.Tie as tie
 use Rattle.symbol_reader.proofs.Laws.{token-found, token-missing}
 use Rattle.reader.proofs.Whole.{end-stop, end-by}
 
-enum-known-s : tie.Need-enum-known-s
-enum-known-s c = search needs
-
-enum-told : tie.Need-enum-told
-enum-told c = search needs
-
 returns : tie.Need-returns
 returns c = end-stop (c .before .before .before .args .text .now) (c .enum-told .given .1)
-
-next-token-requires : tie.Need-next-token-requires
-next-token-requires c κs = search needs
-
-enum-known-from : tie.Need-enum-known-from
-enum-known-from c = search needs
-
-enum-told-2 : tie.Need-enum-told-2
-enum-told-2 c = search needs
 
 returns-2 : tie.Need-returns-2
 returns-2 c =
@@ -38,14 +23,5 @@ returns-3 c =
     end-by text (s .s .given .1) (token-found text (s .s .given .0 .1 .0 .at) (t .next-token .ensures) (c .before .from .given .1) .first)
 
 pub read-end-spec : {M : Type 1} → statement M
-read-end-spec =
-    tie.close
-    (tie.spec
-    enum-known-s
-    enum-told
-    returns
-    next-token-requires
-    enum-known-from
-    enum-told-2
-    returns-2
+read-end-spec = tie.close (tie.spec (search needs) (search needs) returns (search needs) (search needs) (search needs) returns-2
     returns-3)

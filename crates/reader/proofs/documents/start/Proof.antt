@@ -6,11 +6,8 @@ use Rattle.reader.proofs.documents.start.Statement.{statement}
 use Rattle.reader.proofs.documents.start.Tie as tie
 use Rattle.symbol_reader.specs.declared.Step.the-variants.{Next}
 
-comments-end-requires : tie.Need-comments-end-requires
-comments-end-requires c κs = search needs
-
 returns : tie.Need-returns
 returns c = ap (λ (at : ℕ). Next 0 (record { at = at; cells = 0; values = 0 })) (c .comments-end .ensures)
 
 pub start-spec : {M : Type 1} → statement M
-start-spec = tie.close (tie.spec comments-end-requires returns)
+start-spec = tie.close (tie.spec (search needs) returns)

@@ -86,17 +86,8 @@ item c small l room p =
     (derivation-as (s .n) (s .m + count c) (ap (λ (k : ℕ). s .m + k) (sym (l .count))) (sym (p .0)) used
     (r .ensures small (omega (arith, few c, c .before .before .before .before .before .loop-test .taken)) (few c) (subst (λ (names : List Bytes). Fingerprinted names (t .prints)) (sym used) (p .1))))
 
-enum-known-s : tie.Need-enum-known-s Inv-loop μ-loop
-enum-known-s c = search needs
-
-enum-told : tie.Need-enum-told Inv-loop μ-loop
-enum-told c = search needs
-
 returns : tie.Need-returns Inv-loop μ-loop
 returns c = λ small few. follows-stop (c .enum-told .given .1)
-
-has-rows-requires : tie.Need-has-rows-requires Inv-loop μ-loop
-has-rows-requires c κs = search needs
 
 returns-2 : tie.Need-returns-2 Inv-loop μ-loop
 returns-2 c =
@@ -117,27 +108,6 @@ add-read-derivation-2 c =
     let i = c .before .before in
     omega (arith, i .before .has-rows .ensures .0 (not-false _ (i .if1 .left)))
 
-read-derivation-requires : tie.Need-read-derivation-requires Inv-loop μ-loop
-read-derivation-requires c κs = search needs
-
-enum-known-s-2 : tie.Need-enum-known-s-2 Inv-loop μ-loop
-enum-known-s-2 c = search needs
-
-enum-told-2 : tie.Need-enum-told-2 Inv-loop μ-loop
-enum-told-2 c = search needs
-
-same-length : tie.Need-same-length Inv-loop μ-loop
-same-length c = search needs
-
-same-length-2 : tie.Need-same-length-2 Inv-loop μ-loop
-same-length-2 c = search needs
-
-same-length-3 : tie.Need-same-length-3 Inv-loop μ-loop
-same-length-3 c = search needs
-
-same-length-4 : tie.Need-same-length-4 Inv-loop μ-loop
-same-length-4 c = search needs
-
 returns-3 : tie.Need-returns-3 Inv-loop μ-loop
 returns-3 c =
     let k = c .before .before .before .before .before .before .before .before .before in
@@ -149,12 +119,6 @@ with-reason-requires : tie.Need-with-reason-requires Inv-loop μ-loop
 with-reason-requires c κs =
     let k = c .before .before .before .before .before .before .before .before .before .before in
     omega (arith, at-loop k .loop .inv .1, few k, k .before .before .before .before .before .loop-test .taken)
-
-add-i : tie.Need-add-i Inv-loop μ-loop
-add-i c = search needs
-
-loop-less : tie.Need-loop-less Inv-loop μ-loop
-loop-less c = search needs
 
 loop-again : tie.Need-loop-again Inv-loop μ-loop
 loop-again c =
@@ -173,51 +137,13 @@ loop-again c =
       k .read-derivation .kept .1 .1 .1 .1 .1 .1 .1 .1 .1 .0 ∙ t .5,
     )
 
-same-length-5 : tie.Need-same-length-5 Inv-loop μ-loop
-same-length-5 c = search needs
-
-same-length-6 : tie.Need-same-length-6 Inv-loop μ-loop
-same-length-6 c = search needs
-
-same-length-7 : tie.Need-same-length-7 Inv-loop μ-loop
-same-length-7 c = search needs
-
-same-length-8 : tie.Need-same-length-8 Inv-loop μ-loop
-same-length-8 c = search needs
-
 returns-4 : tie.Need-returns-4 Inv-loop μ-loop
 returns-4 c =
     let l = c .before in
     λ small fits. follows-by (l .before .before .before .before .s .given .1) (record { is = λ room q. looping-done (l .loop .inv .0 small fits (q .1)) (c .loop-test .left) (λ l m. tt) room })
 
 pub read-derivations-spec : {M : Type 1} → statement M
-read-derivations-spec =
-    tie.close
-    (tie.spec
-    Inv-loop
-    μ-loop
-    enum-known-s
-    enum-told
-    returns
-    has-rows-requires
-    returns-2
-    loop-holds
-    add-read-derivation
-    add-read-derivation-2
-    read-derivation-requires
-    enum-known-s-2
-    enum-told-2
-    same-length
-    same-length-2
-    same-length-3
-    same-length-4
-    returns-3
-    with-reason-requires
-    add-i
-    loop-less
-    loop-again
-    same-length-5
-    same-length-6
-    same-length-7
-    same-length-8
-    returns-4)
+read-derivations-spec = tie.close (tie.spec Inv-loop μ-loop (search needs) (search needs) returns (search needs) returns-2
+    loop-holds add-read-derivation add-read-derivation-2 (search needs) (search needs) (search needs) (search needs)
+    (search needs) (search needs) (search needs) returns-3 with-reason-requires (search needs) (search needs) loop-again
+    (search needs) (search needs) (search needs) (search needs) returns-4)

@@ -6,23 +6,8 @@ use Rattle.row_reader.proofs.derivations.read_detail.Tie as tie
 use Rattle.symbol_reader.proofs.FollowsLaws.{follows-stop}
 use Rattle.row_reader.proofs.Reasons.{detail-none, detail-listed, detail-unsplit}
 
-enum-known-s : tie.Need-enum-known-s
-enum-known-s c = search needs
-
-enum-told : tie.Need-enum-told
-enum-told c = search needs
-
 returns : tie.Need-returns
 returns c = λ w rs small t. follows-stop (c .enum-told .given .1)
-
-read-pair-list-requires : tie.Need-read-pair-list-requires
-read-pair-list-requires c κs = search needs
-
-same-length : tie.Need-same-length
-same-length c = search needs
-
-same-length-2 : tie.Need-same-length-2
-same-length-2 c = search needs
 
 returns-2 : tie.Need-returns-2
 returns-2 c =
@@ -31,15 +16,6 @@ returns-2 c =
     let s = i .before .before .before .before .before .before .args in
     λ w rs small t. detail-listed (s .own) (i .before .before .s .given .1) w t (omega (arith, i .if1 .taken)) (omega (arith, i .if1 .taken)) (p .read-pair-list .ensures rs small)
 
-read-pair-list-requires-2 : tie.Need-read-pair-list-requires-2
-read-pair-list-requires-2 c κs = search needs
-
-same-length-3 : tie.Need-same-length-3
-same-length-3 c = search needs
-
-same-length-4 : tie.Need-same-length-4
-same-length-4 c = search needs
-
 returns-3 : tie.Need-returns-3
 returns-3 c =
     let p = c .before .before .before in
@@ -47,12 +23,6 @@ returns-3 c =
     let k = i .before in
     let s = k .before .before .before .before .before .before .args in
     λ w rs small t. detail-listed (s .own) (k .before .before .s .given .1) w t (omega (arith, i .if2 .taken)) (omega (arith, i .if2 .taken)) (p .read-pair-list2 .ensures rs small)
-
-read-unsplit-requires : tie.Need-read-unsplit-requires
-read-unsplit-requires c κs = search needs
-
-same-length-5 : tie.Need-same-length-5
-same-length-5 c = search needs
 
 returns-4 : tie.Need-returns-4
 returns-4 c =
@@ -69,21 +39,5 @@ returns-5 c =
     λ w rs small t. detail-none (s .own) (k .before .before .s .given .1) w t (k .if1 .left) (c .before .if2 .left) (c .if3 .left)
 
 pub read-detail-spec : {M : Type 1} → statement M
-read-detail-spec =
-    tie.close
-    (tie.spec
-    enum-known-s
-    enum-told
-    returns
-    read-pair-list-requires
-    same-length
-    same-length-2
-    returns-2
-    read-pair-list-requires-2
-    same-length-3
-    same-length-4
-    returns-3
-    read-unsplit-requires
-    same-length-5
-    returns-4
-    returns-5)
+read-detail-spec = tie.close (tie.spec (search needs) (search needs) returns (search needs) (search needs) (search needs)
+    returns-2 (search needs) (search needs) (search needs) returns-3 (search needs) (search needs) returns-4 returns-5)

@@ -7,36 +7,6 @@ use Rattle.row_reader.proofs.derivations.read_justification.Statement.{
 use Rattle.row_reader.proofs.derivations.read_justification.Tie as tie
 use Rattle.symbol_reader.proofs.FollowsLaws.{then-follows, carry-follows, leads-always, view-follows, follows-told}
 
-slice-aggregate-read-word : tie.Need-slice-aggregate-read-word
-slice-aggregate-read-word c = search needs
-
-read-word-requires : tie.Need-read-word-requires
-read-word-requires c κs = search needs
-
-read-reason-requires : tie.Need-read-reason-requires
-read-reason-requires c κs = search needs
-
-slice-aggregate-read-word-2 : tie.Need-slice-aggregate-read-word-2
-slice-aggregate-read-word-2 c = search needs
-
-read-word-requires-2 : tie.Need-read-word-requires-2
-read-word-requires-2 c κs = search needs
-
-slice-aggregate-read-index-or : tie.Need-slice-aggregate-read-index-or
-slice-aggregate-read-index-or c = search needs
-
-read-index-or-requires : tie.Need-read-index-or-requires
-read-index-or-requires c κs = search needs
-
-carry-requires : tie.Need-carry-requires
-carry-requires c κs = search needs
-
-same-length : tie.Need-same-length
-same-length c = search needs
-
-same-length-2 : tie.Need-same-length-2
-same-length-2 c = search needs
-
 returns : tie.Need-returns
 returns c =
     let i = c .before .before .before in
@@ -50,17 +20,5 @@ returns c =
     (then-follows (λ a n t. refl) leads-always (k .read-word2 .ensures _ _ rs) (view-follows {tells = λ a n. Unit {0}} (λ a n t. tt) (i .read-index-or .ensures .0 _ rs (omega (arith, few))))) (c .carry .ensures)))
 
 pub read-justification-spec : {M : Type 1} → statement M
-read-justification-spec =
-    tie.close
-    (tie.spec
-    slice-aggregate-read-word
-    read-word-requires
-    read-reason-requires
-    slice-aggregate-read-word-2
-    read-word-requires-2
-    slice-aggregate-read-index-or
-    read-index-or-requires
-    carry-requires
-    same-length
-    same-length-2
-    returns)
+read-justification-spec = tie.close (tie.spec (search needs) (search needs) (search needs) (search needs) (search needs)
+    (search needs) (search needs) (search needs) (search needs) (search needs) returns)

@@ -7,21 +7,6 @@ use Rattle.grammar.specs.Certificate.{asmWord}
 use Rattle.symbol_reader.proofs.FollowsLaws.{carry-each, leads-always, view-follows}
 use Rattle.row_reader.proofs.Reasons.{word-cell}
 
-read-reason-word-requires : tie.Need-read-reason-word-requires
-read-reason-word-requires c κs = search needs
-
-read-detail-requires : tie.Need-read-detail-requires
-read-detail-requires c κs = search needs
-
-carry-requires : tie.Need-carry-requires
-carry-requires c κs = search needs
-
-same-length : tie.Need-same-length
-same-length c = search needs
-
-same-length-2 : tie.Need-same-length-2
-same-length-2 c = search needs
-
 returns : tie.Need-returns
 returns c =
     let d = c .before .before .before .before in
@@ -30,12 +15,4 @@ returns c =
     view-follows (λ p n t. word-cell (p .0) (p .1) ∙ t) (carry-each asmWord leads-always (w .read-reason-word .ensures .0 _ rs) (λ a t. d .read-detail .ensures a rs small t) (c .carry .ensures))
 
 pub read-reason-spec : {M : Type 1} → statement M
-read-reason-spec =
-    tie.close
-    (tie.spec
-    read-reason-word-requires
-    read-detail-requires
-    carry-requires
-    same-length
-    same-length-2
-    returns)
+read-reason-spec = tie.close (tie.spec (search needs) (search needs) (search needs) (search needs) (search needs) returns)

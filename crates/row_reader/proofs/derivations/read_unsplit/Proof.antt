@@ -6,21 +6,6 @@ use Rattle.row_reader.proofs.derivations.read_unsplit.Statement.{statem
 use Rattle.row_reader.proofs.derivations.read_unsplit.Tie as tie
 use Rattle.symbol_reader.proofs.FollowsLaws.{then-follows, leads-always, view-follows}
 
-read-index-requires : tie.Need-read-index-requires
-read-index-requires c κs = search needs
-
-read-index-requires-2 : tie.Need-read-index-requires-2
-read-index-requires-2 c κs = search needs
-
-read-index-requires-3 : tie.Need-read-index-requires-3
-read-index-requires-3 c κs = search needs
-
-read-index-requires-4 : tie.Need-read-index-requires-4
-read-index-requires-4 c κs = search needs
-
-same-length : tie.Need-same-length
-same-length c = search needs
-
 returns : tie.Need-returns
 returns c =
     let d = c .before .before in
@@ -34,12 +19,4 @@ returns c =
     (then-follows (λ a n t. refl) leads-always (e .read-index3 .ensures .0 vs rs (omega (arith, small))) (d .read-index4 .ensures .0 vs rs (omega (arith, small))))))
 
 pub read-unsplit-spec : {M : Type 1} → statement M
-read-unsplit-spec =
-    tie.close
-    (tie.spec
-    read-index-requires
-    read-index-requires-2
-    read-index-requires-3
-    read-index-requires-4
-    same-length
-    returns)
+read-unsplit-spec = tie.close (tie.spec (search needs) (search needs) (search needs) (search needs) (search needs) returns)

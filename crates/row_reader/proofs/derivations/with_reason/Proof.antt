@@ -6,9 +6,6 @@ use borrow.Author.Needs.{needs}
 use Rattle.row_reader.proofs.derivations.with_reason.Statement.{statement}
 use Rattle.row_reader.proofs.derivations.with_reason.Tie as tie
 
-add-result : tie.Need-add-result
-add-result c = search needs
-
 returns : tie.Need-returns
 returns c = rw (eq-eqb _ _ (c .if1 .taken))
 
@@ -16,4 +13,4 @@ returns-2 : tie.Need-returns-2
 returns-2 c = rw (ne-eqb _ _ (c .if1 .left)) (sym (add-zero _))
 
 pub with-reason-spec : {M : Type 1} → statement M
-with-reason-spec = tie.close (tie.spec add-result returns returns-2)
+with-reason-spec = tie.close (tie.spec (search needs) returns returns-2)

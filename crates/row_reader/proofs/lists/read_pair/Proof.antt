@@ -5,21 +5,6 @@ use Rattle.row_reader.proofs.lists.read_pair.Statement.{statement}
 use Rattle.row_reader.proofs.lists.read_pair.Tie as tie
 use Rattle.symbol_reader.proofs.FollowsLaws.{then-follows, leads-value, view-follows}
 
-read-new-index-requires : tie.Need-read-new-index-requires
-read-new-index-requires c κs = search needs
-
-read-value-requires : tie.Need-read-value-requires
-read-value-requires c κs = search needs
-
-same-length : tie.Need-same-length
-same-length c = search needs
-
-same-length-2 : tie.Need-same-length-2
-same-length-2 c = search needs
-
-same-length-3 : tie.Need-same-length-3
-same-length-3 c = search needs
-
 returns : tie.Need-returns
 returns c =
     let v = c .before in
@@ -27,12 +12,4 @@ returns c =
     ((λ used rs small fits marks. view-follows (λ p n t. t .0 .1) (then-follows (λ a n t. refl) (leads-value (λ n a. refl)) (i .ensures .0 used _ rs small fits marks) (v .read-value .ensures .0 _ rs))), i .ensures .1 .1)
 
 pub read-pair-spec : {M : Type 1} → statement M
-read-pair-spec =
-    tie.close
-    (tie.spec
-    read-new-index-requires
-    read-value-requires
-    same-length
-    same-length-2
-    same-length-3
-    returns)
+read-pair-spec = tie.close (tie.spec (search needs) (search needs) (search needs) (search needs) (search needs) returns)

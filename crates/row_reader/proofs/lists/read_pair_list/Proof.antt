@@ -9,18 +9,6 @@ use Rattle.grammar.specs.Format.{items}
 use Rattle.grammar.specs.Certificate.{pair}
 use Rattle.symbol_reader.proofs.FollowsLaws.{then-follows, leads-always, follows-told}
 
-read-count-requires : tie.Need-read-count-requires
-read-count-requires c κs = search needs
-
-read-pairs-requires : tie.Need-read-pairs-requires
-read-pairs-requires c κs = search needs
-
-same-length : tie.Need-same-length
-same-length c = search needs
-
-same-length-2 : tie.Need-same-length-2
-same-length-2 c = search needs
-
 returns : tie.Need-returns
 returns c =
     let p = c .before .before .before in
@@ -31,5 +19,4 @@ returns c =
     (then-follows (λ a n t. ap (λ (k : ℕ). items k (pair (s .bound))) (sym (t .0))) leads-always (k .read-count .ensures .0 _ rs (omega (arith, small))) (p .read-pairs .ensures rs small))
 
 pub read-pair-list-spec : {M : Type 1} → statement M
-read-pair-list-spec =
-    tie.close (tie.spec read-count-requires read-pairs-requires same-length same-length-2 returns)
+read-pair-list-spec = tie.close (tie.spec (search needs) (search needs) (search needs) (search needs) returns)

@@ -49,35 +49,11 @@ item c rs small l room marks =
     follows-told (λ p n e k t. subst (λ (used : List ℕ). Marks used (c .read-pair .last .1 .1 .1 .0)) (sym (indices-more (l .done) p)) t)
     (c .read-pair .ensures .0 (indices (l .done)) rs (omega (arith, small)) (omega (arith, small, at-loop c .loop .inv .3)) marks)
 
-enum-known-s : tie.Need-enum-known-s Inv-loop μ-loop
-enum-known-s c = search needs
-
-enum-told : tie.Need-enum-told Inv-loop μ-loop
-enum-told c = search needs
-
 returns : tie.Need-returns Inv-loop μ-loop
 returns c = λ rs small. follows-stop (c .enum-told .given .1)
 
 loop-holds : tie.Need-loop-holds Inv-loop μ-loop
 loop-holds c = (λ rs small. looping-start (marks-none 16), refl, refl, search needs)
-
-slice-aggregate-read-pair : tie.Need-slice-aggregate-read-pair Inv-loop μ-loop
-slice-aggregate-read-pair c = search needs
-
-read-pair-requires : tie.Need-read-pair-requires Inv-loop μ-loop
-read-pair-requires c κs = search needs
-
-enum-known-s-2 : tie.Need-enum-known-s-2 Inv-loop μ-loop
-enum-known-s-2 c = search needs
-
-enum-told-2 : tie.Need-enum-told-2 Inv-loop μ-loop
-enum-told-2 c = search needs
-
-same-length : tie.Need-same-length Inv-loop μ-loop
-same-length c = search needs
-
-same-length-2 : tie.Need-same-length-2 Inv-loop μ-loop
-same-length-2 c = search needs
 
 returns-2 : tie.Need-returns-2 Inv-loop μ-loop
 returns-2 c =
@@ -85,12 +61,6 @@ returns-2 c =
     λ rs small.
     follows-by (at-loop k .before .before .s .given .1)
     (record { is = λ room q. looping-stop (at-loop k .loop .inv .0 rs small) (search needs) (marked k) (item k rs small) (c .enum-told2 .given .1) room })
-
-add-i : tie.Need-add-i Inv-loop μ-loop
-add-i c = search needs
-
-loop-less : tie.Need-loop-less Inv-loop μ-loop
-loop-less c = search needs
 
 loop-again : tie.Need-loop-again Inv-loop μ-loop
 loop-again c =
@@ -101,37 +71,12 @@ loop-again c =
       k .read-pair .ensures .1 ∙ at-loop k .loop .inv .3,
     )
 
-same-length-3 : tie.Need-same-length-3 Inv-loop μ-loop
-same-length-3 c = search needs
-
-same-length-4 : tie.Need-same-length-4 Inv-loop μ-loop
-same-length-4 c = search needs
-
 returns-3 : tie.Need-returns-3 Inv-loop μ-loop
 returns-3 c =
     let l = c .before in
     λ rs small. follows-by (l .before .before .s .given .1) (record { is = λ room q. looping-done (l .loop .inv .0 rs small) (c .loop-test .left) (λ l m. tt) room })
 
 pub read-pairs-spec : {M : Type 1} → statement M
-read-pairs-spec =
-    tie.close
-    (tie.spec
-    Inv-loop
-    μ-loop
-    enum-known-s
-    enum-told
-    returns
-    loop-holds
-    slice-aggregate-read-pair
-    read-pair-requires
-    enum-known-s-2
-    enum-told-2
-    same-length
-    same-length-2
-    returns-2
-    add-i
-    loop-less
-    loop-again
-    same-length-3
-    same-length-4
-    returns-3)
+read-pairs-spec = tie.close (tie.spec Inv-loop μ-loop (search needs) (search needs) returns loop-holds (search needs)
+    (search needs) (search needs) (search needs) (search needs) (search needs) returns-2 (search needs) (search needs)
+    loop-again (search needs) (search needs) returns-3)

@@ -34,31 +34,13 @@ module _ (n : ℕ) (small : n ≤ 256) {text : Bytes} {s : Step} {ix : List ℕ}
       go instead t = absurd (h (sym t))
       go (given a) t = follows-by e (subst (λ (k : ℕ). Follows Always (λ _. items k (pair n)) any text (Next i c) ix vs rs ix′ vs′ rs′ r) (sym (t .0)) (follows-at f))
 
-enum-known-s : tie.Need-enum-known-s
-enum-known-s c = search needs
-
-enum-told : tie.Need-enum-told
-enum-told c = search needs
-
 returns : tie.Need-returns
 returns c = λ k rs small t. follows-stop (c .enum-told .given .1)
-
-cast-if1 : tie.Need-cast-if1
-cast-if1 c = search needs
 
 returns-2 : tie.Need-returns-2
 returns-2 c =
     let s = c .before .before .before .before .before .before .args in
     λ k rs small t. none (s .n) small (c .before .before .s .given .1) (c .if1 .taken) k t
-
-read-pairs-requires : tie.Need-read-pairs-requires
-read-pairs-requires c κs = search needs
-
-same-length : tie.Need-same-length
-same-length c = search needs
-
-same-length-2 : tie.Need-same-length-2
-same-length-2 c = search needs
 
 returns-3 : tie.Need-returns-3
 returns-3 c =
@@ -68,15 +50,5 @@ returns-3 c =
     λ k rs small t. some (s .n) small (i .before .before .s .given .1) (i .if1 .left) (p .read-pairs .ensures rs (omega (arith, small))) k t
 
 pub read-listed-spec : {M : Type 1} → statement M
-read-listed-spec =
-    tie.close
-    (tie.spec
-    enum-known-s
-    enum-told
-    returns
-    cast-if1
-    returns-2
-    read-pairs-requires
-    same-length
-    same-length-2
-    returns-3)
+read-listed-spec = tie.close (tie.spec (search needs) (search needs) returns (search needs) returns-2 (search needs)
+    (search needs) (search needs) returns-3)

@@ -5,21 +5,6 @@ use Rattle.row_reader.proofs.rows.read_row_body.Statement.{statement}
 use Rattle.row_reader.proofs.rows.read_row_body.Tie as tie
 use Rattle.symbol_reader.proofs.FollowsLaws.{then-follows, leads-always, leads-value, follows-told}
 
-read-sense-requires : tie.Need-read-sense-requires
-read-sense-requires c κs = search needs
-
-read-value-requires : tie.Need-read-value-requires
-read-value-requires c κs = search needs
-
-read-side-requires : tie.Need-read-side-requires
-read-side-requires c κs = search needs
-
-same-length : tie.Need-same-length
-same-length c = search needs
-
-same-length-2 : tie.Need-same-length-2
-same-length-2 c = search needs
-
 returns : tie.Need-returns
 returns c =
     let b = c .before .before .before in
@@ -30,12 +15,4 @@ returns c =
     (then-follows (λ a n t. refl) (leads-value (λ n a. refl)) (s .read-sense .ensures .0 _ rs) (then-follows (λ a n t. refl) leads-always (v .read-value .ensures .0 _ rs) (b .read-side .ensures rs small)))
 
 pub read-row-body-spec : {M : Type 1} → statement M
-read-row-body-spec =
-    tie.close
-    (tie.spec
-    read-sense-requires
-    read-value-requires
-    read-side-requires
-    same-length
-    same-length-2
-    returns)
+read-row-body-spec = tie.close (tie.spec (search needs) (search needs) (search needs) (search needs) (search needs) returns)

@@ -67,38 +67,11 @@ item c small few l room prints =
     (subst₂ (λ (own : ℕ) (names : List Bytes). Follows Always (λ i. row (s .n) own names) (λ a i. Fingerprinted (names ++ (a .name .bytes ∷ [])) (r .last .1 .1 .1 .1 .1 .1 .1 .0)) (s .text .now) (Next 0 (t .d)) (t .index) (t .values) (t .rows) (r .last .1 .1 .1 .1 .0) (r .last .1 .1 .1 .1 .1 .0) (r .last .1 .1 .1 .1 .1 .1 .0) (r .result))
     (sym (l .count)) used (r .ensures small (omega (arith, few, c .before .before .before .before .before .loop-test .taken)) (subst (λ (names : List Bytes). Fingerprinted names (t .prints)) (sym used) prints)))
 
-enum-known-s : tie.Need-enum-known-s Inv-loop μ-loop
-enum-known-s c = search needs
-
-enum-told : tie.Need-enum-told Inv-loop μ-loop
-enum-told c = search needs
-
 returns : tie.Need-returns Inv-loop μ-loop
 returns c = λ small few long. follows-stop (c .enum-told .given .1)
 
 loop-holds : tie.Need-loop-holds Inv-loop μ-loop
 loop-holds c = (λ small few long. looping-start (no-names long), refl, refl, refl, refl)
-
-read-row-requires : tie.Need-read-row-requires Inv-loop μ-loop
-read-row-requires c κs = search needs
-
-enum-known-s-2 : tie.Need-enum-known-s-2 Inv-loop μ-loop
-enum-known-s-2 c = search needs
-
-enum-told-2 : tie.Need-enum-told-2 Inv-loop μ-loop
-enum-told-2 c = search needs
-
-same-length : tie.Need-same-length Inv-loop μ-loop
-same-length c = search needs
-
-same-length-2 : tie.Need-same-length-2 Inv-loop μ-loop
-same-length-2 c = search needs
-
-same-length-3 : tie.Need-same-length-3 Inv-loop μ-loop
-same-length-3 c = search needs
-
-same-length-4 : tie.Need-same-length-4 Inv-loop μ-loop
-same-length-4 c = search needs
 
 returns-2 : tie.Need-returns-2 Inv-loop μ-loop
 returns-2 c =
@@ -106,12 +79,6 @@ returns-2 c =
     λ small few long.
     follows-by (at-loop k .before .before .s .given .1)
     (record { is = λ room q. looping-stop (at-loop k .loop .inv .0 small few long) (search needs) (printed k) (item k small few) (c .enum-told2 .given .1) room })
-
-add-i : tie.Need-add-i Inv-loop μ-loop
-add-i c = search needs
-
-loop-less : tie.Need-loop-less Inv-loop μ-loop
-loop-less c = search needs
 
 loop-again : tie.Need-loop-again Inv-loop μ-loop
 loop-again c =
@@ -124,46 +91,12 @@ loop-again c =
       k .read-row .kept .1 .1 .1 .1 .1 .1 .1 .0 ∙ t .4,
     )
 
-same-length-5 : tie.Need-same-length-5 Inv-loop μ-loop
-same-length-5 c = search needs
-
-same-length-6 : tie.Need-same-length-6 Inv-loop μ-loop
-same-length-6 c = search needs
-
-same-length-7 : tie.Need-same-length-7 Inv-loop μ-loop
-same-length-7 c = search needs
-
-same-length-8 : tie.Need-same-length-8 Inv-loop μ-loop
-same-length-8 c = search needs
-
 returns-3 : tie.Need-returns-3 Inv-loop μ-loop
 returns-3 c =
     let l = c .before in
     λ small few long. follows-by (l .before .before .s .given .1) (record { is = λ room q. looping-done (l .loop .inv .0 small few long) (c .loop-test .left) (λ l m. m) room })
 
 pub read-rows-spec : {M : Type 1} → statement M
-read-rows-spec =
-    tie.close
-    (tie.spec
-    Inv-loop
-    μ-loop
-    enum-known-s
-    enum-told
-    returns
-    loop-holds
-    read-row-requires
-    enum-known-s-2
-    enum-told-2
-    same-length
-    same-length-2
-    same-length-3
-    same-length-4
-    returns-2
-    add-i
-    loop-less
-    loop-again
-    same-length-5
-    same-length-6
-    same-length-7
-    same-length-8
-    returns-3)
+read-rows-spec = tie.close (tie.spec Inv-loop μ-loop (search needs) (search needs) returns loop-holds (search needs)
+    (search needs) (search needs) (search needs) (search needs) (search needs) (search needs) returns-2 (search needs)
+    (search needs) loop-again (search needs) (search needs) (search needs) (search needs) returns-3)

@@ -11,24 +11,6 @@ use Rattle.grammar.specs.Format.{instead, symbol, number, or}
 use Rattle.symbol_reader.specs.Follows.{Always, Follows, cellOr}
 use Rattle.symbol_reader.proofs.FollowsLaws.{then-each, leads-always, view-follows}
 
-slice-aggregate-read-index-or : tie.Need-slice-aggregate-read-index-or
-slice-aggregate-read-index-or c = search needs
-
-bound-of-requires : tie.Need-bound-of-requires
-bound-of-requires c κs = search needs
-
-read-index-or-requires : tie.Need-read-index-or-requires
-read-index-or-requires c κs = search needs
-
-read-listed-requires : tie.Need-read-listed-requires
-read-listed-requires c κs = search needs
-
-same-length : tie.Need-same-length
-same-length c = search needs
-
-same-length-2 : tie.Need-same-length-2
-same-length-2 c = search needs
-
 returns : tie.Need-returns
 returns c =
     let l = c .before .before .before in
@@ -42,13 +24,5 @@ returns c =
     view-follows (λ a n t. tt) (then-each instead leads-always f (λ a t. l .read-listed .ensures a rs small t))
 
 pub read-side-spec : {M : Type 1} → statement M
-read-side-spec =
-    tie.close
-    (tie.spec
-    slice-aggregate-read-index-or
-    bound-of-requires
-    read-index-or-requires
-    read-listed-requires
-    same-length
-    same-length-2
+read-side-spec = tie.close (tie.spec (search needs) (search needs) (search needs) (search needs) (search needs) (search needs)
     returns)

@@ -49,32 +49,11 @@ item : (c : C) (vs : List ℤ) (rs : List ℕ) → start c .args .bound ≤ most
     → Follows Always (λ i. newIndexBelow (start c .args .bound) (l .done)) (λ a i. marked c (l .done ++ (a ∷ []))) (start c .args .text .now) (Next 0 (at-loop c .loop .d)) (at-loop c .loop .index) vs rs (c .read-new-index .last .1 .1 .1 .1 .0) vs rs (c .read-new-index .result)
 item c vs rs small l room marks = c .read-new-index .ensures .0 (l .done) vs rs (omega (arith, small)) (omega (arith, small, at-loop c .loop .inv .2)) marks
 
-enum-known-s : tie.Need-enum-known-s Inv-loop μ-loop
-enum-known-s c = search needs
-
-enum-told : tie.Need-enum-told Inv-loop μ-loop
-enum-told c = search needs
-
 returns : tie.Need-returns Inv-loop μ-loop
 returns c = λ vs rs small. follows-stop (c .enum-told .given .1)
 
 loop-holds : tie.Need-loop-holds Inv-loop μ-loop
 loop-holds c = (λ vs rs small. looping-start (marks-none 4), refl, search needs)
-
-slice-aggregate-read-new-index : tie.Need-slice-aggregate-read-new-index Inv-loop μ-loop
-slice-aggregate-read-new-index c = search needs
-
-read-new-index-requires : tie.Need-read-new-index-requires Inv-loop μ-loop
-read-new-index-requires c κs = search needs
-
-enum-known-s-2 : tie.Need-enum-known-s-2 Inv-loop μ-loop
-enum-known-s-2 c = search needs
-
-enum-told-2 : tie.Need-enum-told-2 Inv-loop μ-loop
-enum-told-2 c = search needs
-
-same-length : tie.Need-same-length Inv-loop μ-loop
-same-length c = search needs
 
 returns-2 : tie.Need-returns-2 Inv-loop μ-loop
 returns-2 c =
@@ -82,12 +61,6 @@ returns-2 c =
     λ vs rs small.
     follows-by (at-loop k .before .before .s .given .1)
     (record { is = λ room q. looping-stop (at-loop k .loop .inv .0 vs rs small) (search needs) (marked k) (item k vs rs small) (c .enum-told2 .given .1) room })
-
-add-i : tie.Need-add-i Inv-loop μ-loop
-add-i c = search needs
-
-loop-less : tie.Need-loop-less Inv-loop μ-loop
-loop-less c = search needs
 
 loop-again : tie.Need-loop-again Inv-loop μ-loop
 loop-again c =
@@ -97,9 +70,6 @@ loop-again c =
       k .read-new-index .ensures .1 .1 ∙ at-loop k .loop .inv .2,
     )
 
-same-length-2 : tie.Need-same-length-2 Inv-loop μ-loop
-same-length-2 c = search needs
-
 returns-3 : tie.Need-returns-3 Inv-loop μ-loop
 returns-3 c =
     let l = c .before in
@@ -108,23 +78,6 @@ returns-3 c =
     (record { is = λ room q. looping-done (l .loop .inv .0 vs rs small) (c .loop-test .left) (λ l m. tt) room })
 
 pub read-indices-spec : {M : Type 1} → statement M
-read-indices-spec =
-    tie.close
-    (tie.spec
-    Inv-loop
-    μ-loop
-    enum-known-s
-    enum-told
-    returns
-    loop-holds
-    slice-aggregate-read-new-index
-    read-new-index-requires
-    enum-known-s-2
-    enum-told-2
-    same-length
-    returns-2
-    add-i
-    loop-less
-    loop-again
-    same-length-2
-    returns-3)
+read-indices-spec = tie.close (tie.spec Inv-loop μ-loop (search needs) (search needs) returns loop-holds (search needs)
+    (search needs) (search needs) (search needs) (search needs) returns-2 (search needs) (search needs) loop-again
+    (search needs) returns-3)

@@ -17,26 +17,11 @@ Inv-loop text count d₀ i₀ d i =
 abbrev μ-loop : tie.MeasureT-loop
 μ-loop text count d₀ i₀ d i = count - i
 
-enum-known-s : tie.Need-enum-known-s Inv-loop μ-loop
-enum-known-s c = search needs
-
-enum-told : tie.Need-enum-told Inv-loop μ-loop
-enum-told c = search needs
-
 returns : tie.Need-returns Inv-loop μ-loop
 returns c = λ ix vs rs. follows-stop (c .enum-told .given .1)
 
 loop-holds : tie.Need-loop-holds Inv-loop μ-loop
 loop-holds c = λ ix vs rs. looping-start tt
-
-read-name-requires : tie.Need-read-name-requires Inv-loop μ-loop
-read-name-requires c κs = search needs
-
-enum-known-s-2 : tie.Need-enum-known-s-2 Inv-loop μ-loop
-enum-known-s-2 c = search needs
-
-enum-told-2 : tie.Need-enum-told-2 Inv-loop μ-loop
-enum-told-2 c = search needs
 
 returns-2 : tie.Need-returns-2 Inv-loop μ-loop
 returns-2 c =
@@ -45,12 +30,6 @@ returns-2 c =
     λ ix vs rs.
     follows-by (l .before .before .s .given .1)
     (record { is = λ room q. looping-stop (l .loop .inv ix vs rs) (n .before .loop-test .taken) (λ done. Unit {0}) (λ k room p. follows-told (λ a m d e t. tt) (n .read-name .ensures ix vs rs)) (c .enum-told2 .given .1) room })
-
-add-i : tie.Need-add-i Inv-loop μ-loop
-add-i c = search needs
-
-loop-less : tie.Need-loop-less Inv-loop μ-loop
-loop-less c = search needs
 
 loop-again : tie.Need-loop-again Inv-loop μ-loop
 loop-again c =
@@ -66,20 +45,5 @@ returns-3 c =
     (record { is = λ room q. looping-done (l .loop .inv ix vs rs) (c .loop-test .left) (λ k p. tt) room })
 
 pub read-names-spec : {M : Type 1} → statement M
-read-names-spec =
-    tie.close
-    (tie.spec
-    Inv-loop
-    μ-loop
-    enum-known-s
-    enum-told
-    returns
-    loop-holds
-    read-name-requires
-    enum-known-s-2
-    enum-told-2
-    returns-2
-    add-i
-    loop-less
-    loop-again
-    returns-3)
+read-names-spec = tie.close (tie.spec Inv-loop μ-loop (search needs) (search needs) returns loop-holds (search needs)
+    (search needs) (search needs) returns-2 (search needs) (search needs) loop-again returns-3)

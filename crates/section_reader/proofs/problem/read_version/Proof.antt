@@ -5,29 +5,10 @@ use Rattle.section_reader.proofs.problem.read_version.Statement.{statem
 use Rattle.section_reader.proofs.problem.read_version.Tie as tie
 use Rattle.symbol_reader.proofs.FollowsLaws.{leads-always, then-follows, view-follows}
 
-slice-aggregate-read-word : tie.Need-slice-aggregate-read-word
-slice-aggregate-read-word c = search needs
-
-read-word-requires : tie.Need-read-word-requires
-read-word-requires c κs = search needs
-
-slice-aggregate-read-word-2 : tie.Need-slice-aggregate-read-word-2
-slice-aggregate-read-word-2 c = search needs
-
-read-word-requires-2 : tie.Need-read-word-requires-2
-read-word-requires-2 c κs = search needs
-
 returns : tie.Need-returns
 returns c =
     let w = c .before .before in
     λ ix vs rs. view-follows (λ a n t. tt) (then-follows (λ a n t. refl) leads-always (w .read-word .ensures ix vs rs) (c .read-word2 .ensures ix vs rs))
 
 pub read-version-spec : {M : Type 1} → statement M
-read-version-spec =
-    tie.close
-    (tie.spec
-    slice-aggregate-read-word
-    read-word-requires
-    slice-aggregate-read-word-2
-    read-word-requires-2
-    returns)
+read-version-spec = tie.close (tie.spec (search needs) (search needs) (search needs) (search needs) returns)

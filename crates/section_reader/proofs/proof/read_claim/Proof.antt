@@ -7,18 +7,6 @@ use Rattle.symbol_reader.proofs.FollowsLaws.{then-each, view-follows}
 use Rattle.section_reader.proofs.SectionLaws.{follows-where}
 use Rattle.section_reader.proofs.ClaimLaws.{leads-ends}
 
-read-claim-word-requires : tie.Need-read-claim-word-requires
-read-claim-word-requires c κs = search needs
-
-read-ends-requires : tie.Need-read-ends-requires
-read-ends-requires c κs = search needs
-
-same-length : tie.Need-same-length
-same-length c = search needs
-
-same-length-2 : tie.Need-same-length-2
-same-length-2 c = search needs
-
 returns : tie.Need-returns
 returns c =
     let e = c .before .before .before in
@@ -26,6 +14,4 @@ returns c =
     λ rs. view-follows (λ a n t. tt) (then-each infeasWord leads-ends (follows-where (λ n x q. tt) (w .read-claim-word .ensures .0 _ rs)) (λ a t. e .read-ends .ensures a rs t))
 
 pub read-claim-spec : {M : Type 1} → statement M
-read-claim-spec =
-    tie.close
-    (tie.spec read-claim-word-requires read-ends-requires same-length same-length-2 returns)
+read-claim-spec = tie.close (tie.spec (search needs) (search needs) (search needs) (search needs) returns)

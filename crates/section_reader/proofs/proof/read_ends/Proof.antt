@@ -5,35 +5,11 @@ use Rattle.section_reader.proofs.proof.read_ends.Tie as tie
 use Rattle.symbol_reader.proofs.FollowsLaws.{follows-stop}
 use Rattle.section_reader.proofs.ClaimLaws.{no-ends, two-ends}
 
-enum-known-s : tie.Need-enum-known-s
-enum-known-s c = search needs
-
-enum-told : tie.Need-enum-told
-enum-told c = search needs
-
 returns : tie.Need-returns
 returns c = λ w rs t. follows-stop (c .enum-told .given .1)
 
 returns-2 : tie.Need-returns-2
 returns-2 c = λ w rs t. no-ends (c .before .before .s .given .1) (c .if1 .taken) w t
-
-slice-aggregate-read-end : tie.Need-slice-aggregate-read-end
-slice-aggregate-read-end c = search needs
-
-read-end-requires : tie.Need-read-end-requires
-read-end-requires c κs = search needs
-
-slice-aggregate-read-end-2 : tie.Need-slice-aggregate-read-end-2
-slice-aggregate-read-end-2 c = search needs
-
-read-end-requires-2 : tie.Need-read-end-requires-2
-read-end-requires-2 c κs = search needs
-
-same-length : tie.Need-same-length
-same-length c = search needs
-
-same-length-2 : tie.Need-same-length-2
-same-length-2 c = search needs
 
 returns-3 : tie.Need-returns-3
 returns-3 c =
@@ -43,17 +19,5 @@ returns-3 c =
     λ w rs t. two-ends (i .before .before .s .given .1) (i .if1 .left) (l .read-end .ensures .0 rs) (u .read-end2 .ensures .0 rs) w t
 
 pub read-ends-spec : {M : Type 1} → statement M
-read-ends-spec =
-    tie.close
-    (tie.spec
-    enum-known-s
-    enum-told
-    returns
-    returns-2
-    slice-aggregate-read-end
-    read-end-requires
-    slice-aggregate-read-end-2
-    read-end-requires-2
-    same-length
-    same-length-2
-    returns-3)
+read-ends-spec = tie.close (tie.spec (search needs) (search needs) returns returns-2 (search needs) (search needs)
+    (search needs) (search needs) (search needs) (search needs) returns-3)

@@ -42,38 +42,11 @@ item : (c : C) → start c .args .n ≤ mostVariables
     → Follows Always (λ i. solution (start c .args .n) (l .done)) (λ a i. Unit {0}) (start c .args .text .now) (Next 0 (at-loop c .loop .d)) (at-loop c .loop .index) (at-loop c .loop .values) (at-loop c .loop .rows) (c .read-solution .last .1 .1 .1 .1 .0) (c .read-solution .last .1 .1 .1 .1 .1 .0) (c .read-solution .last .1 .1 .1 .1 .1 .1 .0) (c .read-solution .result)
 item c few l room u = follows-told (λ p n e k t. tt) (c .read-solution .ensures (l .done) few (l .count))
 
-count-of-requires : tie.Need-count-of-requires Inv-loop μ-loop
-count-of-requires c κs = search needs
-
-enum-known-s : tie.Need-enum-known-s Inv-loop μ-loop
-enum-known-s c = search needs
-
-enum-told : tie.Need-enum-told Inv-loop μ-loop
-enum-told c = search needs
-
 returns : tie.Need-returns Inv-loop μ-loop
 returns c = λ few. follows-stop (c .enum-told .given .1)
 
 loop-holds : tie.Need-loop-holds Inv-loop μ-loop
 loop-holds c = (λ few. looping-start tt, refl, refl, refl)
-
-read-solution-requires : tie.Need-read-solution-requires Inv-loop μ-loop
-read-solution-requires c κs = search needs
-
-enum-known-s-2 : tie.Need-enum-known-s-2 Inv-loop μ-loop
-enum-known-s-2 c = search needs
-
-enum-told-2 : tie.Need-enum-told-2 Inv-loop μ-loop
-enum-told-2 c = search needs
-
-same-length : tie.Need-same-length Inv-loop μ-loop
-same-length c = search needs
-
-same-length-2 : tie.Need-same-length-2 Inv-loop μ-loop
-same-length-2 c = search needs
-
-same-length-3 : tie.Need-same-length-3 Inv-loop μ-loop
-same-length-3 c = search needs
 
 returns-2 : tie.Need-returns-2 Inv-loop μ-loop
 returns-2 c =
@@ -81,12 +54,6 @@ returns-2 c =
     λ few.
     follows-by (at-loop k .before .before .s .given .1)
     (record { is = λ room q. as-many (at-loop k .before .before .s .given .1) (at-loop k .before .before .before .before .count-of .ensures) q (looping-stop (at-loop k .loop .inv .0 few) (search needs) (λ done. Unit {0}) (item k few) (c .enum-told2 .given .1) room) })
-
-add-j : tie.Need-add-j Inv-loop μ-loop
-add-j c = search needs
-
-loop-less : tie.Need-loop-less Inv-loop μ-loop
-loop-less c = search needs
 
 loop-again : tie.Need-loop-again Inv-loop μ-loop
 loop-again c =
@@ -97,15 +64,6 @@ loop-again c =
       k .read-solution .kept .1 .1 .1 .1 .1 .1 .0 ∙ at-loop k .loop .inv .3,
     )
 
-same-length-4 : tie.Need-same-length-4 Inv-loop μ-loop
-same-length-4 c = search needs
-
-same-length-5 : tie.Need-same-length-5 Inv-loop μ-loop
-same-length-5 c = search needs
-
-same-length-6 : tie.Need-same-length-6 Inv-loop μ-loop
-same-length-6 c = search needs
-
 returns-3 : tie.Need-returns-3 Inv-loop μ-loop
 returns-3 c =
     let l = c .before in
@@ -114,27 +72,6 @@ returns-3 c =
     (record { is = λ room q. as-many (l .before .before .s .given .1) (l .before .before .before .before .count-of .ensures) q (looping-done (l .loop .inv .0 few) (c .loop-test .left) (λ l m. tt) room) })
 
 pub read-solution-list-spec : {M : Type 1} → statement M
-read-solution-list-spec =
-    tie.close
-    (tie.spec
-    Inv-loop
-    μ-loop
-    count-of-requires
-    enum-known-s
-    enum-told
-    returns
-    loop-holds
-    read-solution-requires
-    enum-known-s-2
-    enum-told-2
-    same-length
-    same-length-2
-    same-length-3
-    returns-2
-    add-j
-    loop-less
-    loop-again
-    same-length-4
-    same-length-5
-    same-length-6
-    returns-3)
+read-solution-list-spec = tie.close (tie.spec Inv-loop μ-loop (search needs) (search needs) (search needs) returns loop-holds
+    (search needs) (search needs) (search needs) (search needs) (search needs) (search needs) returns-2 (search needs)
+    (search needs) loop-again (search needs) (search needs) (search needs) returns-3)

@@ -23,23 +23,11 @@ tested c t tree s row few p at e =
     let r = l .before .row-at .ensures tree row e in
     row-tested tree s row at (l .left-at .result) (l .left-at .ensures _ s _ few p (r .terms-are) (e .formed .terms-formed)) r (e .formed .right-fraction) (c .before .before .left .given .1) (c .holds .ensures) t
 
-row-at-requires : tie.Need-row-at-requires
-row-at-requires c κs = search needs
-
-left-at-requires : tie.Need-left-at-requires
-left-at-requires c κs = search needs
-
-enum-known-left : tie.Need-enum-known-left
-enum-known-left c = search needs
-
 returns : tie.Need-returns
 returns c =
     λ tree s row few p at e.
     let l = c .before in
     row-refused tree s row at (l .left-at .result) (l .left-at .ensures _ s _ few p (l .before .row-at .ensures tree row e .terms-are) (e .formed .terms-formed)) (c .match .keys2)
-
-holds-requires : tie.Need-holds-requires
-holds-requires c κs = search needs
 
 returns-2 : tie.Need-returns-2
 returns-2 c = tested (c .before) (c .if1 .taken)
@@ -48,13 +36,4 @@ returns-3 : tie.Need-returns-3
 returns-3 c = tested (c .before) (c .if1 .left)
 
 pub check-row-spec : {M : Type 1} → statement M
-check-row-spec =
-    tie.close
-    (tie.spec
-    row-at-requires
-    left-at-requires
-    enum-known-left
-    returns
-    holds-requires
-    returns-2
-    returns-3)
+check-row-spec = tie.close (tie.spec (search needs) (search needs) (search needs) returns (search needs) returns-2 returns-3)

@@ -41,23 +41,8 @@ checked c t tree s e p at =
 loop-holds : tie.Need-loop-holds Inv-loop μ-loop
 loop-holds c = λ tree s e p at. refl
 
-check-row-requires : tie.Need-check-row-requires Inv-loop μ-loop
-check-row-requires c κs = search needs
-
-enum-told : tie.Need-enum-told Inv-loop μ-loop
-enum-told c = search needs
-
-enum-told-2 : tie.Need-enum-told-2 Inv-loop μ-loop
-enum-told-2 c = search needs
-
 returns : tie.Need-returns Inv-loop μ-loop
 returns c = λ tree s e p at. ap verdictSays (c .enum-told2 .given .1) ∙ checked (c .before .before) (c .enum-told2 .given .1) tree s e p at
-
-add-r : tie.Need-add-r Inv-loop μ-loop
-add-r c = search needs
-
-loop-less : tie.Need-loop-less Inv-loop μ-loop
-loop-less c = search needs
 
 loop-again : tie.Need-loop-again Inv-loop μ-loop
 loop-again c = checked (c .before .before) (c .enum-told .given .1)
@@ -66,17 +51,5 @@ returns-2 : tie.Need-returns-2 Inv-loop μ-loop
 returns-2 c = λ tree s e p at. checking-end (checkRow tree s) (tree .constraints .rows) {r = c .before .loop .r} (omega (arith, c .loop-test .left, given-are e)) (c .before .loop .inv tree s e p at)
 
 pub check-rows-spec : {M : Type 1} → statement M
-check-rows-spec =
-    tie.close
-    (tie.spec
-    Inv-loop
-    μ-loop
-    loop-holds
-    check-row-requires
-    enum-told
-    enum-told-2
-    returns
-    add-r
-    loop-less
-    loop-again
-    returns-2)
+check-rows-spec = tie.close (tie.spec Inv-loop μ-loop loop-holds (search needs) (search needs) (search needs) returns
+    (search needs) (search needs) loop-again returns-2)

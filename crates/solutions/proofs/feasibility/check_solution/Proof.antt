@@ -40,29 +40,8 @@ checked c t tree e lt =
     ap (λ (v : result.Verdict). v andThen each (checkRow tree s) (tree .constraints .rows))
     (sym (ap verdictSays t) ∙ c .check-whole .ensures s (at-point (i .before) tree e lt) (at-place (i .before .before) tree e lt) ∙ ap (each (wholeAt s)) (i .integers-of .ensures ∙ e .integers-are))
 
-solution-at-requires : tie.Need-solution-at-requires
-solution-at-requires c κs = search needs
-
-point-of-requires : tie.Need-point-of-requires
-point-of-requires c κs = search needs
-
-integers-of-requires : tie.Need-integers-of-requires
-integers-of-requires c κs = search needs
-
-check-whole-requires : tie.Need-check-whole-requires
-check-whole-requires c κs = search needs
-
-enum-told : tie.Need-enum-told
-enum-told c = search needs
-
-enum-told-2 : tie.Need-enum-told-2
-enum-told-2 c = search needs
-
 returns : tie.Need-returns
 returns c = λ tree e lt. ap verdictSays (c .enum-told2 .given .1) ∙ checked (c .before .before) (c .enum-told2 .given .1) tree e lt
-
-check-rows-requires : tie.Need-check-rows-requires
-check-rows-requires c κs = search needs
 
 returns-2 : tie.Need-returns-2
 returns-2 c =
@@ -73,15 +52,5 @@ returns-2 c =
     ∙ checked w (c .before .before .before .before .enum-told .given .1) tree e lt
 
 pub check-solution-spec : {M : Type 1} → statement M
-check-solution-spec =
-    tie.close
-    (tie.spec
-    solution-at-requires
-    point-of-requires
-    integers-of-requires
-    check-whole-requires
-    enum-told
-    enum-told-2
-    returns
-    check-rows-requires
-    returns-2)
+check-solution-spec = tie.close (tie.spec (search needs) (search needs) (search needs) (search needs) (search needs)
+    (search needs) returns (search needs) returns-2)

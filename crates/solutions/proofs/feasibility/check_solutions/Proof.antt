@@ -35,23 +35,8 @@ checked c t tree e =
 loop-holds : tie.Need-loop-holds Inv-loop μ-loop
 loop-holds c = λ tree e. refl
 
-check-solution-requires : tie.Need-check-solution-requires Inv-loop μ-loop
-check-solution-requires c κs = search needs
-
-enum-told : tie.Need-enum-told Inv-loop μ-loop
-enum-told c = search needs
-
-enum-told-2 : tie.Need-enum-told-2 Inv-loop μ-loop
-enum-told-2 c = search needs
-
 returns : tie.Need-returns Inv-loop μ-loop
 returns c = λ tree e. ap verdictSays (c .enum-told2 .given .1) ∙ checked (c .before .before) (c .enum-told2 .given .1) tree e
-
-add-j : tie.Need-add-j Inv-loop μ-loop
-add-j c = search needs
-
-loop-less : tie.Need-loop-less Inv-loop μ-loop
-loop-less c = search needs
 
 loop-again : tie.Need-loop-again Inv-loop μ-loop
 loop-again c = checked (c .before .before) (c .enum-told .given .1)
@@ -62,17 +47,5 @@ returns-2 c =
     checking-end (checkSolution tree) (tree .solutions .solutions) {r = c .before .loop .j} (omega (arith, c .loop-test .left, solutions-are e)) (c .before .loop .inv tree e)
 
 pub check-solutions-spec : {M : Type 1} → statement M
-check-solutions-spec =
-    tie.close
-    (tie.spec
-    Inv-loop
-    μ-loop
-    loop-holds
-    check-solution-requires
-    enum-told
-    enum-told-2
-    returns
-    add-j
-    loop-less
-    loop-again
-    returns-2)
+check-solutions-spec = tie.close (tie.spec Inv-loop μ-loop loop-holds (search needs) (search needs) (search needs) returns
+    (search needs) (search needs) loop-again returns-2)

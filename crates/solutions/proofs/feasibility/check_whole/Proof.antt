@@ -37,29 +37,11 @@ tested c t s p at =
 loop-holds : tie.Need-loop-holds Inv-loop μ-loop
 loop-holds c = λ s p at. refl
 
-mul-v : tie.Need-mul-v Inv-loop μ-loop
-mul-v c = search needs
-
-shared-slice-read-v : tie.Need-shared-slice-read-v Inv-loop μ-loop
-shared-slice-read-v c = search needs
-
 cast-v : tie.Need-cast-v Inv-loop μ-loop
 cast-v c = omega (arith, c .shared-slice-known2 .given (c .before .before .loop .k))
 
-coefficient-at-requires : tie.Need-coefficient-at-requires Inv-loop μ-loop
-coefficient-at-requires c κs = search needs
-
-is-whole-requires : tie.Need-is-whole-requires Inv-loop μ-loop
-is-whole-requires c κs = search needs
-
 returns : tie.Need-returns Inv-loop μ-loop
 returns c = λ s p at. ap (refused 9) at ∙ tested (c .before) (not-true _ (c .if1 .taken)) s p at
-
-add-k : tie.Need-add-k Inv-loop μ-loop
-add-k c = search needs
-
-loop-less : tie.Need-loop-less Inv-loop μ-loop
-loop-less c = search needs
 
 loop-again : tie.Need-loop-again Inv-loop μ-loop
 loop-again c = tested (c .before) (not-false _ (c .if1 .left))
@@ -68,19 +50,5 @@ returns-2 : tie.Need-returns-2 Inv-loop μ-loop
 returns-2 c = λ s p at. checking-end (wholeAt s) _ (c .loop-test .left) (c .before .loop .inv s p at)
 
 pub check-whole-spec : {M : Type 1} → statement M
-check-whole-spec =
-    tie.close
-    (tie.spec
-    Inv-loop
-    μ-loop
-    loop-holds
-    mul-v
-    shared-slice-read-v
-    cast-v
-    coefficient-at-requires
-    is-whole-requires
-    returns
-    add-k
-    loop-less
-    loop-again
-    returns-2)
+check-whole-spec = tie.close (tie.spec Inv-loop μ-loop loop-holds (search needs) (search needs) cast-v (search needs)
+    (search needs) returns (search needs) (search needs) loop-again returns-2)

@@ -5,12 +5,6 @@ use borrow.Author.Needs.{needs}
 use Rattle.solutions.proofs.objectives.objective_at.Statement.{statement}
 use Rattle.solutions.proofs.objectives.objective_at.Tie as tie
 
-point-of-requires : tie.Need-point-of-requires
-point-of-requires c κs = search needs
-
-left-at-requires : tie.Need-left-at-requires
-left-at-requires c κs = search needs
-
 returns : tie.Need-returns
 returns c =
     λ tree e lt.
@@ -20,4 +14,4 @@ returns c =
     c .left-at .ensures _ (solutionAt tree j) (objective tree) few (p .point-of .ensures _ _ few (e .solution j lt)) (e .objective-is) (e .formed .objective-formed)
 
 pub objective-at-spec : {M : Type 1} → statement M
-objective-at-spec = tie.close (tie.spec point-of-requires left-at-requires returns)
+objective-at-spec = tie.close (tie.spec (search needs) (search needs) returns)

@@ -21,20 +21,8 @@ Inv-loop index values rows header bound sense count best₀ j₀ best j = (tree 
 abbrev μ-loop : tie.MeasureT-loop
 μ-loop index values rows header bound sense count best₀ j₀ best j = count - j
 
-sense-towards-requires : tie.Need-sense-towards-requires Inv-loop μ-loop
-sense-towards-requires c κs = search needs
-
 loop-holds : tie.Need-loop-holds Inv-loop μ-loop
 loop-holds c = λ tree e f. worked-start tree _ f
-
-objective-at-requires : tie.Need-objective-at-requires Inv-loop μ-loop
-objective-at-requires c κs = search needs
-
-enum-known-o : tie.Need-enum-known-o Inv-loop μ-loop
-enum-known-o c = search needs
-
-solution-at-requires : tie.Need-solution-at-requires Inv-loop μ-loop
-solution-at-requires c κs = search needs
 
 returns : tie.Need-returns Inv-loop μ-loop
 returns c =
@@ -47,16 +35,10 @@ returns c =
     (sym (w .objective-at .ensures tree e (l .loop-test .taken)) ∙ is-refused (w .objective-at .result) (c .before .match .keys2) place)
     ∙ ap (refused 12) (sym (c .solution-at .ensures .place .is ∙ e .solution j (l .loop-test .taken) .place-is))
 
-with-objective-requires : tie.Need-with-objective-requires Inv-loop μ-loop
-with-objective-requires c κs = search needs
-
 add-j : tie.Need-add-j Inv-loop μ-loop
 add-j c =
     let l = c .before .before .before .before .before in
     omega (arith, l .loop-test .taken, l .before .before .before .before .before .good .1 .1 .1 .0)
-
-loop-less : tie.Need-loop-less Inv-loop μ-loop
-loop-less c = search needs
 
 loop-again : tie.Need-loop-again Inv-loop μ-loop
 loop-again c =
@@ -73,19 +55,5 @@ returns-2 : tie.Need-returns-2 Inv-loop μ-loop
 returns-2 c = λ tree e f. worked-end tree _ (c .before .loop .inv tree e f) (omega (arith, c .loop-test .left, solutions-are e))
 
 pub objectives-of-spec : {M : Type 1} → statement M
-objectives-of-spec =
-    tie.close
-    (tie.spec
-    Inv-loop
-    μ-loop
-    sense-towards-requires
-    loop-holds
-    objective-at-requires
-    enum-known-o
-    solution-at-requires
-    returns
-    with-objective-requires
-    add-j
-    loop-less
-    loop-again
-    returns-2)
+objectives-of-spec = tie.close (tie.spec Inv-loop μ-loop (search needs) loop-holds (search needs) (search needs) (search needs)
+    returns (search needs) add-j (search needs) loop-again returns-2)

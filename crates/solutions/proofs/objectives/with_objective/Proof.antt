@@ -5,12 +5,6 @@ use Rattle.solutions.proofs.ObjectivesLaws.{best-with}
 use Rattle.solutions.proofs.objectives.with_objective.Statement.{statement}
 use Rattle.solutions.proofs.objectives.with_objective.Tie as tie
 
-holds-requires : tie.Need-holds-requires
-holds-requires c κs = search needs
-
-holds-requires-2 : tie.Need-holds-requires-2
-holds-requires-2 c κs = search needs
-
 returns : tie.Need-returns
 returns c =
     λ d os e.
@@ -24,4 +18,4 @@ returns-2 c =
     best-with d os e (k .holds2 .ensures) (k .before .before .holds .ensures) false (c .if1 .left)
 
 pub with-objective-spec : {M : Type 1} → statement M
-with-objective-spec = tie.close (tie.spec holds-requires holds-requires-2 returns returns-2)
+with-objective-spec = tie.close (tie.spec (search needs) (search needs) returns returns-2)

@@ -7,15 +7,6 @@ use borrow.Author.Needs.{needs}
 use Rattle.solutions.proofs.points.left_at.Statement.{statement}
 use Rattle.solutions.proofs.points.left_at.Tie as tie
 
-indices-of-requires : tie.Need-indices-of-requires
-indices-of-requires c κs = search needs
-
-values-of-requires : tie.Need-values-of-requires
-values-of-requires c κs = search needs
-
-left-of-requires : tie.Need-left-of-requires
-left-of-requires c κs = search needs
-
 returns : tie.Need-returns
 returns c =
     λ n s ts few p e f.
@@ -24,4 +15,4 @@ returns c =
     ∙ ap (leftSide (s .name .place) (s .values .terms)) q
 
 pub left-at-spec : {M : Type 1} → statement M
-left-at-spec = tie.close (tie.spec indices-of-requires values-of-requires left-of-requires returns)
+left-at-spec = tie.close (tie.spec (search needs) (search needs) (search needs) returns)

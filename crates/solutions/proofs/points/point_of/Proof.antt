@@ -9,18 +9,6 @@ use borrow.Author.Needs.{needs}
 use Rattle.solutions.proofs.points.point_of.Statement.{statement}
 use Rattle.solutions.proofs.points.point_of.Tie as tie
 
-solution-terms-requires : tie.Need-solution-terms-requires
-solution-terms-requires c κs = search needs
-
-indices-of-requires : tie.Need-indices-of-requires
-indices-of-requires c κs = search needs
-
-values-of-requires : tie.Need-values-of-requires
-values-of-requires c κs = search needs
-
-coefficients-of-requires : tie.Need-coefficients-of-requires
-coefficients-of-requires c κs = search needs
-
 returns : tie.Need-returns
 returns c =
     λ n s few g.
@@ -36,11 +24,4 @@ returns c =
     record { values-are = e; fractions = subst AreFractions (sym e) (fractions-in 256 (s .values .terms) below) }
 
 pub point-of-spec : {M : Type 1} → statement M
-point-of-spec =
-    tie.close
-    (tie.spec
-    solution-terms-requires
-    indices-of-requires
-    values-of-requires
-    coefficients-of-requires
-    returns)
+point-of-spec = tie.close (tie.spec (search needs) (search needs) (search needs) (search needs) returns)

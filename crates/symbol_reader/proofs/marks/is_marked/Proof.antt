@@ -8,18 +8,8 @@ use Rattle.symbol_reader.proofs.MarksLaws.{unmarked-beyond}
 returns : tie.Need-returns
 returns c = sym (unmarked-beyond (c .before .args .words .now) (c .before .args .n) (c .if1 .taken))
 
-mul-result : tie.Need-mul-result
-mul-result c = search needs
-
-shared-slice-read-result : tie.Need-shared-slice-read-result
-shared-slice-read-result c = search needs
-
-shr-result : tie.Need-shr-result
-shr-result c = search needs
-
 returns-2 : tie.Need-returns-2
 returns-2 c = refl
 
 pub is-marked-spec : {M : Type 1} → statement M
-is-marked-spec =
-    tie.close (tie.spec returns mul-result shared-slice-read-result shr-result returns-2)
+is-marked-spec = tie.close (tie.spec returns (search needs) (search needs) (search needs) returns-2)

@@ -9,27 +9,6 @@ use Rattle.symbol_reader.proofs.MarksLaws.{unmarked-more, marked-more}
 returns : tie.Need-returns
 returns c = (unmarked-more (c .before .before .args .words .now) (c .before .before .args .n) (c .if1 .taken), refl)
 
-mul-union : tie.Need-mul-union
-mul-union c = search needs
-
-slice-read-union : tie.Need-slice-read-union
-slice-read-union c = search needs
-
-single-requires : tie.Need-single-requires
-single-requires c κs = search needs
-
-union-requires : tie.Need-union-requires
-union-requires c κs = search needs
-
-mul-words : tie.Need-mul-words
-mul-words c = search needs
-
-slice-write-words : tie.Need-slice-write-words
-slice-write-words c = search needs
-
-same-length : tie.Need-same-length
-same-length c = search needs
-
 returns-2 : tie.Need-returns-2
 returns-2 c =
     let s = c .before in
@@ -38,15 +17,5 @@ returns-2 c =
     ((λ k h. marked-more (a .words .now) (a .n) (c .union .result) (s .single .result) (i .if1 .left) (c .union .ensures) (s .single .ensures) k), length-set (a .words .now) _ (c .union .result))
 
 pub mark-spec : {M : Type 1} → statement M
-mark-spec =
-    tie.close
-    (tie.spec
-    returns
-    mul-union
-    slice-read-union
-    single-requires
-    union-requires
-    mul-words
-    slice-write-words
-    same-length
-    returns-2)
+mark-spec = tie.close (tie.spec returns (search needs) (search needs) (search needs) (search needs) (search needs)
+    (search needs) (search needs) returns-2)

@@ -5,20 +5,8 @@ use Rattle.symbol_reader.proofs.marks.mark_answer.Statement.{statement}
 use Rattle.symbol_reader.proofs.marks.mark_answer.Tie as tie
 use Rattle.symbol_reader.proofs.TokenLaws.{given-by}
 
-enum-known-s : tie.Need-enum-known-s
-enum-known-s c = search needs
-
-enum-told : tie.Need-enum-told
-enum-told c = search needs
-
 returns : tie.Need-returns
 returns c = (given-by (c .enum-told .given .1) refl, refl)
-
-mark-requires : tie.Need-mark-requires
-mark-requires c κs = search needs
-
-same-length : tie.Need-same-length
-same-length c = search needs
 
 returns-2 : tie.Need-returns-2
 returns-2 c =
@@ -26,5 +14,4 @@ returns-2 c =
     (given-by (m .before .before .before .s .given .1) (m .mark .ensures .0), m .mark .ensures .1)
 
 pub mark-answer-spec : {M : Type 1} → statement M
-mark-answer-spec =
-    tie.close (tie.spec enum-known-s enum-told returns mark-requires same-length returns-2)
+mark-answer-spec = tie.close (tie.spec (search needs) (search needs) returns (search needs) (search needs) returns-2)

@@ -28,48 +28,20 @@ abbrev μ-loop : tie.MeasureT-loop
 loop-holds : tie.Need-loop-holds Inv-loop μ-loop
 loop-holds c = (record { is = whole (c .args .name .now) }, search needs)
 
-mul-n : tie.Need-mul-n Inv-loop μ-loop
-mul-n c = search needs
-
-shared-slice-read-n : tie.Need-shared-slice-read-n Inv-loop μ-loop
-shared-slice-read-n c = search needs
-
 cast-n : tie.Need-cast-n Inv-loop μ-loop
 cast-n c = omega (arith, c .shared-slice-known .given (c .before .before .loop .i))
 
 add-n : tie.Need-add-n Inv-loop μ-loop
 add-n c = omega (arith, c .shared-slice-known .given (c .before .before .loop .i), c .before .before .loop .inv .1)
 
-add-i : tie.Need-add-i Inv-loop μ-loop
-add-i c = search needs
-
-loop-less : tie.Need-loop-less Inv-loop μ-loop
-loop-less c = search needs
-
 loop-again : tie.Need-loop-again Inv-loop μ-loop
 loop-again c =
     let l = c .before .before .loop in
     (goes-on (l .inv .0) (omega arith) (omega arith) (λ xs. refl), mod-lt _ (omega arith))
 
-cast-result : tie.Need-cast-result Inv-loop μ-loop
-cast-result c = search needs
-
 returns : tie.Need-returns Inv-loop μ-loop
 returns c = all-done (c .before .loop .inv .0) (omega arith)
 
 pub fingerprint-spec : {M : Type 1} → statement M
-fingerprint-spec =
-    tie.close
-    (tie.spec
-    Inv-loop
-    μ-loop
-    loop-holds
-    mul-n
-    shared-slice-read-n
-    cast-n
-    add-n
-    add-i
-    loop-less
-    loop-again
-    cast-result
-    returns)
+fingerprint-spec = tie.close (tie.spec Inv-loop μ-loop loop-holds (search needs) (search needs) cast-n add-n (search needs)
+    (search needs) loop-again (search needs) returns)

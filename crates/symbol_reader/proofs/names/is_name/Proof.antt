@@ -21,9 +21,6 @@ abbrev μ-loop : tie.MeasureT-loop
 loop-holds : tie.Need-loop-holds Inv-loop μ-loop
 loop-holds c = record { is = refl }
 
-shared-slice-read-b : tie.Need-shared-slice-read-b Inv-loop μ-loop
-shared-slice-read-b c = search needs
-
 returns : tie.Need-returns Inv-loop μ-loop
 unfolding isPrintable
 returns c = settled (c .before .before .before .loop .inv) (omega arith) (omega arith) (λ xs. rw (is-below 33 126 _ (c .if1 .taken)))
@@ -33,12 +30,6 @@ unfolding isPrintable
 returns-2 c =
     settled (c .before .before .before .before .loop .inv) (omega arith) (omega arith)
     (λ xs. rw (is-above 33 126 _ (c .before .if1 .left) (c .if2 .taken)))
-
-add-i : tie.Need-add-i Inv-loop μ-loop
-add-i c = search needs
-
-loop-less : tie.Need-loop-less Inv-loop μ-loop
-loop-less c = search needs
 
 loop-again : tie.Need-loop-again Inv-loop μ-loop
 unfolding isPrintable
@@ -50,16 +41,5 @@ returns-3 : tie.Need-returns-3 Inv-loop μ-loop
 returns-3 c = all-done (c .before .loop .inv) (omega arith)
 
 pub is-name-spec : {M : Type 1} → statement M
-is-name-spec =
-    tie.close
-    (tie.spec
-    Inv-loop
-    μ-loop
-    loop-holds
-    shared-slice-read-b
-    returns
-    returns-2
-    add-i
-    loop-less
-    loop-again
-    returns-3)
+is-name-spec = tie.close (tie.spec Inv-loop μ-loop loop-holds (search needs) returns returns-2 (search needs) (search needs)
+    loop-again returns-3)

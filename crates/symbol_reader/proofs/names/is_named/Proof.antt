@@ -22,29 +22,8 @@ abbrev μ-loop : tie.MeasureT-loop
 loop-holds : tie.Need-loop-holds Inv-loop μ-loop
 loop-holds c = record { is = refl }
 
-mul-p : tie.Need-mul-p Inv-loop μ-loop
-mul-p c = omega arith
-
-mul-p-2 : tie.Need-mul-p-2 Inv-loop μ-loop
-mul-p-2 c = omega arith
-
-shared-slice-read-p : tie.Need-shared-slice-read-p Inv-loop μ-loop
-shared-slice-read-p c = omega arith
-
 cast-p : tie.Need-cast-p Inv-loop μ-loop
 cast-p c = omega (arith, c .shared-slice-known3 .given (4 * c .before .before .loop .i))
-
-mul-l : tie.Need-mul-l Inv-loop μ-loop
-mul-l c = omega arith
-
-add-l : tie.Need-add-l Inv-loop μ-loop
-add-l c = omega arith
-
-mul-l-2 : tie.Need-mul-l-2 Inv-loop μ-loop
-mul-l-2 c = omega arith
-
-shared-slice-read-l : tie.Need-shared-slice-read-l Inv-loop μ-loop
-shared-slice-read-l c = omega arith
 
 cast-l : tie.Need-cast-l Inv-loop μ-loop
 cast-l c = omega (arith, c .shared-slice-known4 .given (4 * c .before .before .before .loop .i + 1))
@@ -53,12 +32,6 @@ add-part : tie.Need-add-part Inv-loop μ-loop
 add-part c =
     let i = c .before .before .before .loop .i in
     omega (arith, c .shared-slice-known4 .given (4 * i), c .shared-slice-known4 .given (4 * i + 1))
-
-part-requires : tie.Need-part-requires Inv-loop μ-loop
-part-requires c κs = search needs
-
-is-word-requires : tie.Need-is-word-requires Inv-loop μ-loop
-is-word-requires c κs = search needs
 
 -- the token was compared with the name of the row i
 module _ (c : tie.After-is-word Inv-loop μ-loop) where
@@ -80,12 +53,6 @@ module _ (c : tie.After-is-word Inv-loop μ-loop) where
 returns : tie.Need-returns Inv-loop μ-loop
 returns c = name-here _ _ _ _ _ (at-loop (c .before) .loop .inv) (omega arith) (omega arith) (sym (is-name (c .before)) ∙ c .if1 .taken)
 
-add-i : tie.Need-add-i Inv-loop μ-loop
-add-i c = search needs
-
-loop-less : tie.Need-loop-less Inv-loop μ-loop
-loop-less c = search needs
-
 loop-again : tie.Need-loop-again Inv-loop μ-loop
 loop-again c = name-next _ _ _ _ _ (at-loop (c .before) .loop .inv) (omega arith) (omega arith) (sym (is-name (c .before)) ∙ c .if1 .left)
 
@@ -93,26 +60,6 @@ returns-2 : tie.Need-returns-2 Inv-loop μ-loop
 returns-2 c = all-done (c .before .loop .inv) (omega arith)
 
 pub is-named-spec : {M : Type 1} → statement M
-is-named-spec =
-    tie.close
-    (tie.spec
-    Inv-loop
-    μ-loop
-    loop-holds
-    mul-p
-    mul-p-2
-    shared-slice-read-p
-    cast-p
-    mul-l
-    add-l
-    mul-l-2
-    shared-slice-read-l
-    cast-l
-    add-part
-    part-requires
-    is-word-requires
-    returns
-    add-i
-    loop-less
-    loop-again
-    returns-2)
+is-named-spec = tie.close (tie.spec Inv-loop μ-loop loop-holds (λ c. omega arith) (λ c. omega arith) (λ c. omega arith) cast-p
+    (λ c. omega arith) (λ c. omega arith) (λ c. omega arith) (λ c. omega arith) cast-l add-part (search needs) (search needs)
+    returns (search needs) (search needs) loop-again returns-2)

@@ -12,15 +12,6 @@ use Rattle.symbol_reader.specs.Leaves.{tokenAt, namesIn}
 use Rattle.symbol_reader.specs.Marks.{marked}
 use Rattle.symbol_reader.proofs.Fingerprints.{none-of-them, names-there}
 
-wide-requires : tie.Need-wide-requires
-wide-requires c κs = search needs
-
-is-marked-requires : tie.Need-is-marked-requires
-is-marked-requires c κs = search needs
-
-least-requires : tie.Need-least-requires
-least-requires c κs = search needs
-
 is-named-requires : tie.Need-is-named-requires
 is-named-requires c κs = omega (arith, c .least .ensures)
 
@@ -43,6 +34,4 @@ returns-2 c =
     sym (none-of-them (tokenAt (s .text .now) (s .t) .bytes) prints (ap (marked (s .prints .now)) (sym (w .wide .ensures ∙ print)) ∙ sym (m .is-marked .ensures) ∙ c .if1 .left))
 
 pub is-used-spec : {M : Type 1} → statement M
-is-used-spec =
-    tie.close
-    (tie.spec wide-requires is-marked-requires least-requires is-named-requires returns returns-2)
+is-used-spec = tie.close (tie.spec (search needs) (search needs) (search needs) is-named-requires returns returns-2)

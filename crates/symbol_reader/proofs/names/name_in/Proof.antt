@@ -4,9 +4,6 @@ use borrow.Author.Needs.{needs}
 use Rattle.symbol_reader.proofs.names.name_in.Statement.{statement}
 use Rattle.symbol_reader.proofs.names.name_in.Tie as tie
 
-is-name-requires : tie.Need-is-name-requires
-is-name-requires c κs = search needs
-
 returns : tie.Need-returns
 returns c = let e = sym (c .before .is-name .ensures) ∙ c .if1 .taken in (record { is = rw e refl }, λ row. record { is = rw e refl })
 
@@ -14,4 +11,4 @@ returns-2 : tie.Need-returns-2
 returns-2 c = let e = sym (c .before .is-name .ensures) ∙ c .if1 .left in (record { is = rw e refl }, λ row. record { is = rw e refl })
 
 pub name-in-spec : {M : Type 1} → statement M
-name-in-spec = tie.close (tie.spec is-name-requires returns returns-2)
+name-in-spec = tie.close (tie.spec (search needs) returns returns-2)

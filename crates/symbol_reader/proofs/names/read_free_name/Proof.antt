@@ -8,20 +8,8 @@ use Rattle.symbol_reader.specs.Leaves.{tokenAt}
 use Rattle.symbol_reader.proofs.Decoding.{name-mark}
 use Rattle.symbol_reader.proofs.TokenLaws.{tested, rowed-follows, stored-refuses}
 
-due-requires : tie.Need-due-requires
-due-requires c κs = search needs
-
 name-in-requires : tie.Need-name-in-requires
 name-in-requires c κs = c .due .ensures .inside
-
-passed-requires : tie.Need-passed-requires
-passed-requires c κs = search needs
-
-rowed-requires : tie.Need-rowed-requires
-rowed-requires c κs = search needs
-
-same-length : tie.Need-same-length
-same-length c = search needs
 
 returns : tie.Need-returns
 returns c =
@@ -36,6 +24,4 @@ returns c =
     )
 
 pub read-free-name-spec : {M : Type 1} → statement M
-read-free-name-spec =
-    tie.close
-    (tie.spec due-requires name-in-requires passed-requires rowed-requires same-length returns)
+read-free-name-spec = tie.close (tie.spec (search needs) name-in-requires (search needs) (search needs) (search needs) returns)

@@ -5,14 +5,8 @@ use Rattle.symbol_reader.proofs.names.read_name.Statement.{statement}
 use Rattle.symbol_reader.proofs.names.read_name.Tie as tie
 use Rattle.symbol_reader.proofs.TokenLaws.{tested, passed-follows}
 
-due-requires : tie.Need-due-requires
-due-requires c κs = search needs
-
 name-in-requires : tie.Need-name-in-requires
 name-in-requires c κs = c .due .ensures .inside
-
-passed-requires : tie.Need-passed-requires
-passed-requires c κs = search needs
 
 returns : tie.Need-returns
 returns c =
@@ -20,4 +14,4 @@ returns c =
     λ ix vs rs. passed-follows (tested (m .before .due .ensures) (λ filled. m .name-in .ensures .0) (c .passed .ensures)) (λ a. refl) (λ a. refl) (λ a i v. refl)
 
 pub read-name-spec : {M : Type 1} → statement M
-read-name-spec = tie.close (tie.spec due-requires name-in-requires passed-requires returns)
+read-name-spec = tie.close (tie.spec (search needs) name-in-requires (search needs) returns)

@@ -14,26 +14,8 @@ use Rattle.symbol_reader.proofs.TokenLaws.{given-known, tested, rowed-f
 use Rattle.symbol_reader.proofs.FollowsLaws.{follows-told, refuses-more}
 use Rattle.symbol_reader.proofs.Fingerprints.{one-more}
 
-due-requires : tie.Need-due-requires
-due-requires c κs = search needs
-
 row-name-in-requires : tie.Need-row-name-in-requires
 row-name-in-requires c κs = c .before .before .due .ensures .inside
-
-passed-requires : tie.Need-passed-requires
-passed-requires c κs = search needs
-
-rowed-requires : tie.Need-rowed-requires
-rowed-requires c κs = search needs
-
-mark-answer-requires : tie.Need-mark-answer-requires
-mark-answer-requires c κs = search needs
-
-same-length : tie.Need-same-length
-same-length c = search needs
-
-same-length-2 : tie.Need-same-length-2
-same-length-2 c = search needs
 
 returns : tie.Need-returns
 returns c =
@@ -54,14 +36,5 @@ returns c =
     )
 
 pub read-row-name-spec : {M : Type 1} → statement M
-read-row-name-spec =
-    tie.close
-    (tie.spec
-    due-requires
-    row-name-in-requires
-    passed-requires
-    rowed-requires
-    mark-answer-requires
-    same-length
-    same-length-2
-    returns)
+read-row-name-spec = tie.close (tie.spec (search needs) row-name-in-requires (search needs) (search needs) (search needs)
+    (search needs) (search needs) returns)

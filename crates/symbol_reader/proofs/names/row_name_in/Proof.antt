@@ -21,22 +21,10 @@ here s = tokenAt (s .args .text .now) (s .args .t)
 abbrev print : Token → ℕ
 print a = fingerprintOf (a .bytes)
 
-is-name-requires : tie.Need-is-name-requires
-is-name-requires c κs = search needs
-
 returns : tie.Need-returns
 returns c =
     let s = c .before .before .before .before .before in
     λ prints. name-none (s .args .row) (used s) print (here s) (sym (c .before .is-name .ensures) ∙ not-true _ (c .if1 .taken))
-
-part-requires : tie.Need-part-requires
-part-requires c κs = search needs
-
-fingerprint-requires : tie.Need-fingerprint-requires
-fingerprint-requires c κs = search needs
-
-is-used-requires : tie.Need-is-used-requires
-is-used-requires c κs = search needs
 
 returns-2 : tie.Need-returns-2
 returns-2 c =
@@ -61,13 +49,4 @@ returns-3 c =
     name-taken (s .args .row) (used s) print (here s) (sym (i .before .is-name .ensures) ∙ not-false _ (i .if1 .left)) (sym (u .is-used .ensures e prints) ∙ c .if2 .left) (sym e)
 
 pub row-name-in-spec : {M : Type 1} → statement M
-row-name-in-spec =
-    tie.close
-    (tie.spec
-    is-name-requires
-    returns
-    part-requires
-    fingerprint-requires
-    is-used-requires
-    returns-2
-    returns-3)
+row-name-in-spec = tie.close (tie.spec (search needs) returns (search needs) (search needs) (search needs) returns-2 returns-3)

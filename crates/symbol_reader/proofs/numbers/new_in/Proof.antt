@@ -8,27 +8,12 @@ use Rattle.symbol_reader.specs.Leaves.{tokenAt}
 use Rattle.symbol_reader.specs.Marks.{marked}
 use Rattle.symbol_reader.proofs.Decoding.{means-known, new-refused, number-below, new-used, new-taken}
 
-number-in-requires : tie.Need-number-in-requires
-number-in-requires c κs = search needs
-
-enum-known-m : tie.Need-enum-known-m
-enum-known-m c = search needs
-
-enum-told : tie.Need-enum-told
-enum-told c = search needs
-
 returns : tie.Need-returns
 returns c =
     let n = c .before .before in
     let s = n .before .before .before .args in
     λ used filled small fits marks.
     means-known (sym (c .enum-told .given .1)) (new-refused (s .bound) used (tokenAt (s .text .now) (s .t)) (means-known (c .enum-told .given .1) (n .number-in .ensures filled small)))
-
-wide-requires : tie.Need-wide-requires
-wide-requires c κs = search needs
-
-is-marked-requires : tie.Need-is-marked-requires
-is-marked-requires c κs = search needs
 
 returns-2 : tie.Need-returns-2
 returns-2 c =
@@ -55,14 +40,5 @@ returns-3 c =
     new-taken (s .bound) used t h (sym (marks .are _ (omega (arith, number-below (s .bound) used t h, fits))) ∙ ap (marked (s .seen .now)) (sym (w .wide .ensures)) ∙ sym (i .is-marked .ensures) ∙ c .if1 .left)
 
 pub new-in-spec : {M : Type 1} → statement M
-new-in-spec =
-    tie.close
-    (tie.spec
-    number-in-requires
-    enum-known-m
-    enum-told
-    returns
-    wide-requires
-    is-marked-requires
-    returns-2
+new-in-spec = tie.close (tie.spec (search needs) (search needs) (search needs) returns (search needs) (search needs) returns-2
     returns-3)

@@ -6,23 +6,11 @@ use Rattle.symbol_reader.proofs.numbers.number_in.Statement.{statement}
 use Rattle.symbol_reader.proofs.numbers.number_in.Tie as tie
 use Rattle.symbol_reader.proofs.Decoding.{number-none, number-beyond, number-taken}
 
-spelled-requires : tie.Need-spelled-requires
-spelled-requires c κs = search needs
-
-enum-known-m : tie.Need-enum-known-m
-enum-known-m c = search needs
-
-enum-told : tie.Need-enum-told
-enum-told c = search needs
-
 returns : tie.Need-returns
 returns c =
     let p = c .before .before in
     let s = p .before .before in
     λ filled small. number-none (s .args .bound) (s .args .text .now) (s .args .t) (s .pre) filled (sym (p .spelled .ensures) ∙ c .enum-told .given .1)
-
-wide-requires : tie.Need-wide-requires
-wide-requires c κs = search needs
 
 returns-2 : tie.Need-returns-2
 returns-2 c =
@@ -41,6 +29,4 @@ returns-3 c =
     number-taken (s .args .bound) (s .args .text .now) (s .args .t) (s .pre) filled small (sym (p .spelled .ensures) ∙ m .m .given .1) (omega (arith, c .before .wide .ensures, c .if1 .left))
 
 pub number-in-spec : {M : Type 1} → statement M
-number-in-spec =
-    tie.close
-    (tie.spec spelled-requires enum-known-m enum-told returns wide-requires returns-2 returns-3)
+number-in-spec = tie.close (tie.spec (search needs) (search needs) (search needs) returns (search needs) returns-2 returns-3)

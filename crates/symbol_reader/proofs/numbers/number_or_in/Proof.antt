@@ -8,17 +8,11 @@ use Rattle.grammar.specs.Format.{number}
 use Rattle.symbol_reader.specs.Leaves.{tokenAt}
 use Rattle.symbol_reader.proofs.Decoding.{or-instead, or-given}
 
-is-word-requires : tie.Need-is-word-requires
-is-word-requires c κs = search needs
-
 returns : tie.Need-returns
 returns c =
     let s = c .before .before .before .before in
     λ filled small.
     or-instead (s .args .word .now) (s .args .cell) (number (s .args .bound) []) (λ n. n) (tokenAt (s .args .text .now) (s .args .t)) (sym (c .before .is-word .ensures) ∙ c .if1 .taken)
-
-number-in-requires : tie.Need-number-in-requires
-number-in-requires c κs = search needs
 
 returns-2 : tie.Need-returns-2
 returns-2 c =
@@ -28,4 +22,4 @@ returns-2 c =
     or-given (s .args .word .now) (s .args .cell) (number (s .args .bound) []) (λ n. n) (tokenAt (s .args .text .now) (s .args .t)) (sym (e .before .is-word .ensures) ∙ e .if1 .left) (c .number-in .ensures filled small)
 
 pub number-or-in-spec : {M : Type 1} → statement M
-number-or-in-spec = tie.close (tie.spec is-word-requires returns number-in-requires returns-2)
+number-or-in-spec = tie.close (tie.spec (search needs) returns (search needs) returns-2)

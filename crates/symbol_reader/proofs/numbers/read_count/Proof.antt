@@ -10,17 +10,8 @@ use Rattle.grammar.specs.Format.{symbol, number}
 use Rattle.symbol_reader.specs.Follows.{Always, Follows, below, Refuses}
 use Rattle.symbol_reader.specs.Leaves.{NoCell}
 
-least-requires : tie.Need-least-requires
-least-requires c κs = search needs
-
 add-bound : tie.Need-add-bound
 add-bound c = omega (arith, c .least .ensures)
-
-read-index-requires : tie.Need-read-index-requires
-read-index-requires c κs = search needs
-
-same-length : tie.Need-same-length
-same-length c = search needs
 
 returns : tie.Need-returns
 returns c =
@@ -37,5 +28,4 @@ returns c =
     )
 
 pub read-count-spec : {M : Type 1} → statement M
-read-count-spec =
-    tie.close (tie.spec least-requires add-bound read-index-requires same-length returns)
+read-count-spec = tie.close (tie.spec (search needs) add-bound (search needs) (search needs) returns)

@@ -10,20 +10,11 @@ use Rattle.symbol_reader.specs.Leaves.{tokenAt}
 use Rattle.symbol_reader.proofs.Decoding.{number-in-range}
 use Rattle.symbol_reader.proofs.TokenLaws.{tested, filled-follows, stored-refuses}
 
-due-requires : tie.Need-due-requires
-due-requires c κs = search needs
-
 number-in-requires : tie.Need-number-in-requires
 number-in-requires c κs = c .due .ensures .inside
 
 passed-requires : tie.Need-passed-requires
 passed-requires c κs = omega (arith, c .before .due .ensures .inside)
-
-filled-requires : tie.Need-filled-requires
-filled-requires c κs = search needs
-
-same-length : tie.Need-same-length
-same-length c = search needs
 
 returns : tie.Need-returns
 returns c =
@@ -38,6 +29,4 @@ returns c =
     )
 
 pub read-index-spec : {M : Type 1} → statement M
-read-index-spec =
-    tie.close
-    (tie.spec due-requires number-in-requires passed-requires filled-requires same-length returns)
+read-index-spec = tie.close (tie.spec (search needs) number-in-requires passed-requires (search needs) (search needs) returns)

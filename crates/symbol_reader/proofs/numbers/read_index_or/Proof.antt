@@ -26,21 +26,6 @@ module _ (w : Bytes) (cell bound : ℕ) where
   no-mark instead i v = refl
   no-mark (given n) i v = refl
 
-due-requires : tie.Need-due-requires
-due-requires c κs = search needs
-
-number-or-in-requires : tie.Need-number-or-in-requires
-number-or-in-requires c κs = search needs
-
-passed-requires : tie.Need-passed-requires
-passed-requires c κs = search needs
-
-filled-requires : tie.Need-filled-requires
-filled-requires c κs = search needs
-
-same-length : tie.Need-same-length
-same-length c = search needs
-
 returns : tie.Need-returns
 returns c =
     let f = c .before .before in
@@ -56,12 +41,4 @@ returns c =
     )
 
 pub read-index-or-spec : {M : Type 1} → statement M
-read-index-or-spec =
-    tie.close
-    (tie.spec
-    due-requires
-    number-or-in-requires
-    passed-requires
-    filled-requires
-    same-length
-    returns)
+read-index-or-spec = tie.close (tie.spec (search needs) (search needs) (search needs) (search needs) (search needs) returns)

@@ -7,27 +7,6 @@ use Rattle.symbol_reader.proofs.TokenLaws.{tested, filled-follows, stor
 use Rattle.symbol_reader.proofs.FollowsLaws.{follows-told, refuses-more}
 use Rattle.symbol_reader.proofs.MarksLaws.{marks-more}
 
-due-requires : tie.Need-due-requires
-due-requires c κs = search needs
-
-new-in-requires : tie.Need-new-in-requires
-new-in-requires c κs = search needs
-
-passed-requires : tie.Need-passed-requires
-passed-requires c κs = search needs
-
-filled-requires : tie.Need-filled-requires
-filled-requires c κs = search needs
-
-mark-answer-requires : tie.Need-mark-answer-requires
-mark-answer-requires c κs = search needs
-
-same-length : tie.Need-same-length
-same-length c = search needs
-
-same-length-2 : tie.Need-same-length-2
-same-length-2 c = search needs
-
 returns : tie.Need-returns
 returns c =
     let a = c .before .before in
@@ -47,14 +26,5 @@ returns c =
     )
 
 pub read-new-index-spec : {M : Type 1} → statement M
-read-new-index-spec =
-    tie.close
-    (tie.spec
-    due-requires
-    new-in-requires
-    passed-requires
-    filled-requires
-    mark-answer-requires
-    same-length
-    same-length-2
-    returns)
+read-new-index-spec = tie.close (tie.spec (search needs) (search needs) (search needs) (search needs) (search needs)
+    (search needs) (search needs) returns)

@@ -22,9 +22,6 @@ abbrev μ-loop : tie.MeasureT-loop
 loop-holds : tie.Need-loop-holds Inv-loop μ-loop
 loop-holds c = (omega arith, record { is = refl })
 
-shared-slice-read-b : tie.Need-shared-slice-read-b Inv-loop μ-loop
-shared-slice-read-b c = search needs
-
 returns : tie.Need-returns Inv-loop μ-loop
 unfolding isDigit
 returns c = settled (c .before .before .before .loop .inv .1) (omega arith) (omega arith) (λ w. rw (is-below 48 57 _ (c .if1 .taken)))
@@ -34,24 +31,6 @@ unfolding isDigit
 returns-2 c =
     settled (c .before .before .before .before .loop .inv .1) (omega arith) (omega arith)
     (λ w. rw (is-above 48 57 _ (c .before .if1 .left) (c .if2 .taken)))
-
-mul-least : tie.Need-mul-least Inv-loop μ-loop
-mul-least c = omega arith
-
-cast-least : tie.Need-cast-least Inv-loop μ-loop
-cast-least c = omega arith
-
-add-least : tie.Need-add-least Inv-loop μ-loop
-add-least c = omega arith
-
-least-requires : tie.Need-least-requires Inv-loop μ-loop
-least-requires c κs = search needs
-
-add-i : tie.Need-add-i Inv-loop μ-loop
-add-i c = search needs
-
-loop-less : tie.Need-loop-less Inv-loop μ-loop
-loop-less c = search needs
 
 loop-again : tie.Need-loop-again Inv-loop μ-loop
 unfolding isDigit
@@ -64,9 +43,6 @@ loop-again c =
           ∙ ap (λ (n : ℕ). numeralAfter n w) (sym (c .least .ensures))),
     )
 
-cast-t13 : tie.Need-cast-t13 Inv-loop μ-loop
-cast-t13 c = omega arith
-
 returns-3 : tie.Need-returns-3 Inv-loop μ-loop
 returns-3 c =
     let l = c .before .loop in
@@ -74,21 +50,5 @@ returns-3 c =
     ap Number e ∙ all-done (l .inv .1) (omega arith)
 
 pub spelled-spec : {M : Type 1} → statement M
-spelled-spec =
-    tie.close
-    (tie.spec
-    Inv-loop
-    μ-loop
-    loop-holds
-    shared-slice-read-b
-    returns
-    returns-2
-    mul-least
-    cast-least
-    add-least
-    least-requires
-    add-i
-    loop-less
-    loop-again
-    cast-t13
-    returns-3)
+spelled-spec = tie.close (tie.spec Inv-loop μ-loop loop-holds (search needs) returns returns-2 (λ c. omega arith)
+    (λ c. omega arith) (λ c. omega arith) (search needs) (search needs) (search needs) loop-again (λ c. omega arith) returns-3)

@@ -7,12 +7,6 @@ use Rattle.symbol_reader.proofs.stores.ended.Statement.{statement}
 use Rattle.symbol_reader.proofs.stores.ended.Tie as tie
 use Rattle.symbol_reader.proofs.TokenLaws.{given-by}
 
-enum-known-s : tie.Need-enum-known-s
-enum-known-s c = search needs
-
-enum-told : tie.Need-enum-told
-enum-told c = search needs
-
 returns : tie.Need-returns
 returns c = given-by (c .enum-told .given .1) (c .enum-told .given .1, refl)
 
@@ -26,29 +20,8 @@ returns-3 c =
     given-by (c .before .before .before .s .given .1)
     (record { goes = λ h. absurd (omega (arith, h .2, c .if2 .taken)); stays = λ h. (refl, refl) })
 
-low-requires : tie.Need-low-requires
-low-requires c κs = search needs
-
-mul-index : tie.Need-mul-index
-mul-index c = search needs
-
-slice-write-index : tie.Need-slice-write-index
-slice-write-index c = search needs
-
 store-value-requires : tie.Need-store-value-requires
 store-value-requires c κs = omega (arith, c .before .before .if2 .left)
-
-add-t13 : tie.Need-add-t13
-add-t13 c = search needs
-
-add-t10 : tie.Need-add-t10
-add-t10 c = search needs
-
-same-length : tie.Need-same-length
-same-length c = search needs
-
-same-length-2 : tie.Need-same-length-2
-same-length-2 c = search needs
 
 returns-4 : tie.Need-returns-4
 returns-4 c =
@@ -59,20 +32,5 @@ returns-4 c =
     (record { goes = λ h. (refl, rw (l .low .ensures (h .1), w .store-value .ensures) refl); stays = λ h. absurd (⊎-elim (λ k. omega (arith, k, i .before .if1 .left)) (λ k. omega (arith, k, i .if2 .left)) h) })
 
 pub ended-spec : {M : Type 1} → statement M
-ended-spec =
-    tie.close
-    (tie.spec
-    enum-known-s
-    enum-told
-    returns
-    returns-2
-    returns-3
-    low-requires
-    mul-index
-    slice-write-index
-    store-value-requires
-    add-t13
-    add-t10
-    same-length
-    same-length-2
-    returns-4)
+ended-spec = tie.close (tie.spec (search needs) (search needs) returns returns-2 returns-3 (search needs) (search needs)
+    (search needs) store-value-requires (search needs) (search needs) (search needs) (search needs) returns-4)

@@ -6,12 +6,6 @@ use Rattle.symbol_reader.proofs.stores.rowed.Statement.{statement}
 use Rattle.symbol_reader.proofs.stores.rowed.Tie as tie
 use Rattle.symbol_reader.proofs.TokenLaws.{given-by}
 
-enum-known-s : tie.Need-enum-known-s
-enum-known-s c = search needs
-
-enum-told : tie.Need-enum-told
-enum-told c = search needs
-
 returns : tie.Need-returns
 returns c = given-by (c .enum-told .given .1) (c .enum-told .given .1, refl)
 
@@ -20,14 +14,8 @@ returns-2 c =
     given-by (c .before .before .s .given .1)
     (record { goes = λ h. absurd (omega (arith, h .0, c .if1 .taken)); stays = λ h. (refl, refl) })
 
-sub-store-row : tie.Need-sub-store-row
-sub-store-row c = search needs
-
 store-row-requires : tie.Need-store-row-requires
 store-row-requires c κs = omega (arith, c .before .before .if1 .left)
-
-same-length : tie.Need-same-length
-same-length c = search needs
 
 returns-3 : tie.Need-returns-3
 returns-3 c =
@@ -38,14 +26,5 @@ returns-3 c =
     (record { goes = λ h. (refl, w .store-row .ensures (omega (arith, h .1)) (omega (arith, h .1)) (h .2) (h .3)); stays = λ h. absurd (omega (arith, h, i .if1 .left)) })
 
 pub rowed-spec : {M : Type 1} → statement M
-rowed-spec =
-    tie.close
-    (tie.spec
-    enum-known-s
-    enum-told
-    returns
-    returns-2
-    sub-store-row
-    store-row-requires
-    same-length
-    returns-3)
+rowed-spec = tie.close (tie.spec (search needs) (search needs) returns returns-2 (search needs) store-row-requires
+    (search needs) returns-3)

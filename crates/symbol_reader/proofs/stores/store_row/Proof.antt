@@ -8,50 +8,11 @@ use lib.ListN.{length-set}
 use Rattle.symbol_reader.proofs.stores.store_row.Statement.{statement}
 use Rattle.symbol_reader.proofs.stores.store_row.Tie as tie
 
-mul-at : tie.Need-mul-at
-mul-at c = search needs
-
-low-requires : tie.Need-low-requires
-low-requires c κs = search needs
-
-mul-rows : tie.Need-mul-rows
-mul-rows c = search needs
-
-slice-write-rows : tie.Need-slice-write-rows
-slice-write-rows c = search needs
-
-low-requires-2 : tie.Need-low-requires-2
-low-requires-2 c κs = search needs
-
-add-rows : tie.Need-add-rows
-add-rows c = search needs
-
-mul-rows-2 : tie.Need-mul-rows-2
-mul-rows-2 c = search needs
-
 slice-write-rows-2 : tie.Need-slice-write-rows-2
 slice-write-rows-2 c = simp length-set (omega arith)
 
-low-requires-3 : tie.Need-low-requires-3
-low-requires-3 c κs = search needs
-
-add-rows-2 : tie.Need-add-rows-2
-add-rows-2 c = search needs
-
-mul-rows-3 : tie.Need-mul-rows-3
-mul-rows-3 c = search needs
-
 slice-write-rows-3 : tie.Need-slice-write-rows-3
 slice-write-rows-3 c = simp length-set (omega arith)
-
-low-requires-4 : tie.Need-low-requires-4
-low-requires-4 c κs = search needs
-
-add-rows-3 : tie.Need-add-rows-3
-add-rows-3 c = search needs
-
-mul-rows-4 : tie.Need-mul-rows-4
-mul-rows-4 c = search needs
 
 slice-write-rows-4 : tie.Need-slice-write-rows-4
 slice-write-rows-4 c = simp length-set (omega arith)
@@ -69,24 +30,6 @@ returns c =
     λ p s k v. rw (add-one n, two, three, e .before .low .ensures p, e .low2 .ensures s, d .low3 .ensures k, c .low4 .ensures v)
 
 pub store-row-spec : {M : Type 1} → statement M
-store-row-spec =
-    tie.close
-    (tie.spec
-    mul-at
-    low-requires
-    mul-rows
-    slice-write-rows
-    low-requires-2
-    add-rows
-    mul-rows-2
-    slice-write-rows-2
-    low-requires-3
-    add-rows-2
-    mul-rows-3
-    slice-write-rows-3
-    low-requires-4
-    add-rows-3
-    mul-rows-4
-    slice-write-rows-4
-    same-length
-    returns)
+store-row-spec = tie.close (tie.spec (search needs) (search needs) (search needs) (search needs) (search needs) (search needs)
+    (search needs) slice-write-rows-2 (search needs) (search needs) (search needs) slice-write-rows-3 (search needs)
+    (search needs) (search needs) slice-write-rows-4 same-length returns)

@@ -8,21 +8,6 @@ use Rattle.symbol_reader.proofs.stores.store_value.Statement.{statement
 use Rattle.symbol_reader.proofs.stores.store_value.Tie as tie
 use Rattle.integers.proofs.Casts.{back-of}
 
-mul-at : tie.Need-mul-at
-mul-at c = search needs
-
-mul-num : tie.Need-mul-num
-mul-num c = search needs
-
-slice-set-from-num : tie.Need-slice-set-from-num
-slice-set-from-num c = search needs
-
-add-den : tie.Need-add-den
-add-den c = search needs
-
-mul-den : tie.Need-mul-den
-mul-den c = search needs
-
 slice-set-from-den : tie.Need-slice-set-from-den
 slice-set-from-den c = simp length-set (omega arith)
 
@@ -36,14 +21,5 @@ returns c =
     rw (add-one (2 * c .before .before .args .number), back-of (f .num) (g .0 .1), back-of (f .den) (g .1 .0 .1))
 
 pub store-value-spec : {M : Type 1} → statement M
-store-value-spec =
-    tie.close
-    (tie.spec
-    mul-at
-    mul-num
-    slice-set-from-num
-    add-den
-    mul-den
-    slice-set-from-den
-    same-length
-    returns)
+store-value-spec = tie.close (tie.spec (search needs) (search needs) (search needs) (search needs) (search needs)
+    slice-set-from-den same-length returns)

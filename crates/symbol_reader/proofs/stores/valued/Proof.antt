@@ -6,12 +6,6 @@ use Rattle.symbol_reader.proofs.stores.valued.Statement.{statement}
 use Rattle.symbol_reader.proofs.stores.valued.Tie as tie
 use Rattle.symbol_reader.proofs.TokenLaws.{given-by}
 
-enum-known-s : tie.Need-enum-known-s
-enum-known-s c = search needs
-
-enum-told : tie.Need-enum-told
-enum-told c = search needs
-
 returns : tie.Need-returns
 returns c = given-by (c .enum-told .given .1) (c .enum-told .given .1, refl)
 
@@ -23,12 +17,6 @@ returns-2 c =
 store-value-requires : tie.Need-store-value-requires
 store-value-requires c κs = omega (arith, c .before .if1 .left)
 
-add-t8 : tie.Need-add-t8
-add-t8 c = search needs
-
-same-length : tie.Need-same-length
-same-length c = search needs
-
 returns-3 : tie.Need-returns-3
 returns-3 c =
     let w = c .before in
@@ -37,14 +25,5 @@ returns-3 c =
     (record { goes = λ h. (refl, w .store-value .ensures); stays = λ h. absurd (omega (arith, h, i .if1 .left)) })
 
 pub valued-spec : {M : Type 1} → statement M
-valued-spec =
-    tie.close
-    (tie.spec
-    enum-known-s
-    enum-told
-    returns
-    returns-2
-    store-value-requires
-    add-t8
-    same-length
-    returns-3)
+valued-spec = tie.close (tie.spec (search needs) (search needs) returns returns-2 store-value-requires (search needs)
+    (search needs) returns-3)

@@ -8,23 +8,8 @@ use Rattle.symbol_reader.proofs.tokens.due.Tie as tie
 use Rattle.symbol_reader.proofs.Laws.{token-found, token-missing}
 use Rattle.symbol_reader.proofs.TokenLaws.{given-by}
 
-enum-known-s : tie.Need-enum-known-s
-enum-known-s c = search needs
-
-enum-told : tie.Need-enum-told
-enum-told c = search needs
-
 returns : tie.Need-returns
 returns c = record { first = given-by (c .enum-told .given .1) tt; ordered = omega arith; inside = omega arith }
-
-next-token-requires : tie.Need-next-token-requires
-next-token-requires c κs = search needs
-
-enum-known-scan : tie.Need-enum-known-scan
-enum-known-scan c = search needs
-
-enum-told-2 : tie.Need-enum-told-2
-enum-told-2 c = search needs
 
 returns-2 : tie.Need-returns-2
 returns-2 c =
@@ -40,14 +25,5 @@ returns-3 c =
     record { first = given-by (a .given .1) (inl f); ordered = omega (arith, f .not-empty); inside = f .inside }
 
 pub due-spec : {M : Type 1} → statement M
-due-spec =
-    tie.close
-    (tie.spec
-    enum-known-s
-    enum-told
-    returns
-    next-token-requires
-    enum-known-scan
-    enum-told-2
-    returns-2
+due-spec = tie.close (tie.spec (search needs) (search needs) returns (search needs) (search needs) (search needs) returns-2
     returns-3)

@@ -6,29 +6,11 @@ use Rattle.symbol_reader.proofs.tokens.passed.Statement.{statement}
 use Rattle.symbol_reader.proofs.tokens.passed.Tie as tie
 use Rattle.symbol_reader.proofs.TokenLaws.{given-by}
 
-enum-known-s : tie.Need-enum-known-s
-enum-known-s c = search needs
-
-enum-told : tie.Need-enum-told
-enum-told c = search needs
-
 returns : tie.Need-returns
 returns c = given-by (c .enum-told .given .1) (c .enum-told .given .1)
 
 returns-2 : tie.Need-returns-2
 returns-2 c = given-by (c .before .before .before .s .given .1) ((λ h. refl), λ h. absurd (omega (arith, c .if1 .taken)))
-
-enum-known-m : tie.Need-enum-known-m
-enum-known-m c = search needs
-
-enum-known-m-2 : tie.Need-enum-known-m-2
-enum-known-m-2 c = search needs
-
-wide-requires : tie.Need-wide-requires
-wide-requires c κs = search needs
-
-add-t11 : tie.Need-add-t11
-add-t11 c = search needs
 
 returns-3 : tie.Need-returns-3
 returns-3 c =
@@ -44,16 +26,5 @@ returns-4 c =
     ((λ h. absurd (omega (arith, d .if1 .left))), λ h. given-by (m .m2 .given .1) (rw (w .wide .ensures), omega arith))
 
 pub passed-spec : {M : Type 1} → statement M
-passed-spec =
-    tie.close
-    (tie.spec
-    enum-known-s
-    enum-told
-    returns
-    returns-2
-    enum-known-m
-    enum-known-m-2
-    wide-requires
-    add-t11
-    returns-3
-    returns-4)
+passed-spec = tie.close (tie.spec (search needs) (search needs) returns returns-2 (search needs) (search needs) (search needs)
+    (search needs) returns-3 returns-4)

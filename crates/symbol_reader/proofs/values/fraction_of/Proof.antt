@@ -12,15 +12,6 @@ use Rattle.value.specs.Promise.{valueSays}
 none : {r : ℕ} {f g : Fraction} → _≡_ {A = Outcome Fraction} (refuses r) (gives f) → g ≡ f
 none e = let z : _≡_ {A = ℕ} 0 1 = cc in absurd (omega arith)
 
-enum-known-answer : tie.Need-enum-known-answer
-enum-known-answer c = search needs
-
-enum-told : tie.Need-enum-told
-enum-told c = search needs
-
-enum-told-2 : tie.Need-enum-told-2
-enum-told-2 c = search needs
-
 returns : tie.Need-returns
 returns c = λ f h. let e : gives (c .before .answer .given .0 .0) ≡ gives f = sym (ap valueSays (c .before .answer .given .1)) ∙ h in cc
 
@@ -31,5 +22,4 @@ returns-3 : tie.Need-returns-3
 returns-3 c = λ f h. none (sym (ap valueSays (c .enum-told2 .given .1)) ∙ h)
 
 pub fraction-of-spec : {M : Type 1} → statement M
-fraction-of-spec =
-    tie.close (tie.spec enum-known-answer enum-told enum-told-2 returns returns-2 returns-3)
+fraction-of-spec = tie.close (tie.spec (search needs) (search needs) (search needs) returns returns-2 returns-3)

@@ -35,21 +35,6 @@ module _ (w : Bytes) where
   is-first : {text : Bytes} {at f t : ℕ} → Found text at f t → same (slice f t text) w ≡ true → startsWith w (rest text at) ≡ false → ⊥
   is-first found e h = clash (sym (rw (found .first) refl) ∙ h) e
 
-due-requires : tie.Need-due-requires
-due-requires c κs = search needs
-
-is-word-requires : tie.Need-is-word-requires
-is-word-requires c κs = search needs
-
-passed-requires : tie.Need-passed-requires
-passed-requires c κs = search needs
-
-filled-requires : tie.Need-filled-requires
-filled-requires c κs = search needs
-
-same-length : tie.Need-same-length
-same-length c = search needs
-
 returns : tie.Need-returns
 returns c =
     let f = c .before .before in
@@ -63,30 +48,6 @@ returns c =
       λ rs. filled-follows test (λ x k e d. e) (a-cell (a .word .now)) (instead-no-value (a .word .now) 0 (value (1 ∷ [])) (λ f. 1) t e) (no-mark (a .word .now)) (f .filled .ensures),
       stored-refuses test (f .filled .ensures) (λ c found. ⊎-elim (λ h. h) (λ h. absurd (is-first (a .word .now) found e (h .1)))) (λ k. (k, refl)),
     )
-
-part-requires : tie.Need-part-requires
-part-requires c κs = search needs
-
-read-value-requires : tie.Need-read-value-requires
-read-value-requires c κs = search needs
-
-value-in-requires : tie.Need-value-in-requires
-value-in-requires c κs = search needs
-
-passed-requires-2 : tie.Need-passed-requires-2
-passed-requires-2 c κs = search needs
-
-fraction-of-requires : tie.Need-fraction-of-requires
-fraction-of-requires c κs = search needs
-
-ended-requires : tie.Need-ended-requires
-ended-requires c κs = search needs
-
-same-length-2 : tie.Need-same-length-2
-same-length-2 c = search needs
-
-same-length-3 : tie.Need-same-length-3
-same-length-3 c = search needs
 
 returns-2 : tie.Need-returns-2
 returns-2 c =
@@ -109,21 +70,6 @@ returns-2 c =
     )
 
 pub read-end-spec : {M : Type 1} → statement M
-read-end-spec =
-    tie.close
-    (tie.spec
-    due-requires
-    is-word-requires
-    passed-requires
-    filled-requires
-    same-length
-    returns
-    part-requires
-    read-value-requires
-    value-in-requires
-    passed-requires-2
-    fraction-of-requires
-    ended-requires
-    same-length-2
-    same-length-3
+read-end-spec = tie.close (tie.spec (search needs) (search needs) (search needs) (search needs) (search needs) returns
+    (search needs) (search needs) (search needs) (search needs) (search needs) (search needs) (search needs) (search needs)
     returns-2)

@@ -9,30 +9,6 @@ use Rattle.symbol_reader.specs.Leaves.{tokenAt}
 use Rattle.symbol_reader.proofs.Decoding.{value-means, value-kept}
 use Rattle.symbol_reader.proofs.TokenLaws.{tested, valued-follows, stored-refuses}
 
-due-requires : tie.Need-due-requires
-due-requires c κs = search needs
-
-part-requires : tie.Need-part-requires
-part-requires c κs = search needs
-
-read-value-requires : tie.Need-read-value-requires
-read-value-requires c κs = search needs
-
-value-in-requires : tie.Need-value-in-requires
-value-in-requires c κs = search needs
-
-passed-requires : tie.Need-passed-requires
-passed-requires c κs = search needs
-
-fraction-of-requires : tie.Need-fraction-of-requires
-fraction-of-requires c κs = search needs
-
-valued-requires : tie.Need-valued-requires
-valued-requires c κs = search needs
-
-same-length : tie.Need-same-length
-same-length c = search needs
-
 returns : tie.Need-returns
 returns c =
     let v = c .before in
@@ -50,15 +26,5 @@ returns c =
     )
 
 pub read-value-spec : {M : Type 1} → statement M
-read-value-spec =
-    tie.close
-    (tie.spec
-    due-requires
-    part-requires
-    read-value-requires
-    value-in-requires
-    passed-requires
-    fraction-of-requires
-    valued-requires
-    same-length
-    returns)
+read-value-spec = tie.close (tie.spec (search needs) (search needs) (search needs) (search needs) (search needs) (search needs)
+    (search needs) (search needs) returns)

@@ -5,12 +5,6 @@ use Rattle.symbol_reader.proofs.words.at_place.Statement.{statement}
 use Rattle.symbol_reader.proofs.words.at_place.Tie as tie
 use Rattle.symbol_reader.proofs.TokenLaws.{given-by}
 
-enum-known-s : tie.Need-enum-known-s
-enum-known-s c = search needs
-
-enum-told : tie.Need-enum-told
-enum-told c = search needs
-
 returns : tie.Need-returns
 returns c = given-by (c .enum-told .given .1) (c .enum-told .given .1)
 
@@ -18,4 +12,4 @@ returns-2 : tie.Need-returns-2
 returns-2 c = given-by (c .before .s .given .1) refl
 
 pub at-place-spec : {M : Type 1} → statement M
-at-place-spec = tie.close (tie.spec enum-known-s enum-told returns returns-2)
+at-place-spec = tie.close (tie.spec (search needs) (search needs) returns returns-2)

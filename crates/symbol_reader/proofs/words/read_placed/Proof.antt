@@ -6,18 +6,6 @@ use Rattle.symbol_reader.proofs.words.read_placed.Tie as tie
 use Rattle.symbol_reader.proofs.TokenLaws.{tested, placed-follows}
 use Rattle.symbol_reader.proofs.Decoding.{placed-at}
 
-due-requires : tie.Need-due-requires
-due-requires c κs = search needs
-
-word-in-requires : tie.Need-word-in-requires
-word-in-requires c κs = search needs
-
-passed-requires : tie.Need-passed-requires
-passed-requires c κs = search needs
-
-at-place-requires : tie.Need-at-place-requires
-at-place-requires c κs = search needs
-
 returns : tie.Need-returns
 returns c =
     let p = c .before in
@@ -27,5 +15,4 @@ returns c =
     placed-follows (tested (d .due .ensures) (λ filled. m .word-in .ensures .0) (p .passed .ensures)) (placed-at (d .before .before .before .args .word .now) (d .before .before .before .args .text .now) (d .due .result)) (λ a. refl) (λ a. refl) (λ a i v. refl) (c .at-place .ensures)
 
 pub read-placed-spec : {M : Type 1} → statement M
-read-placed-spec =
-    tie.close (tie.spec due-requires word-in-requires passed-requires at-place-requires returns)
+read-placed-spec = tie.close (tie.spec (search needs) (search needs) (search needs) (search needs) returns)

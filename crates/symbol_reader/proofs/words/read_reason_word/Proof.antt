@@ -5,21 +5,6 @@ use Rattle.symbol_reader.proofs.words.read_reason_word.Statement.{state
 use Rattle.symbol_reader.proofs.words.read_reason_word.Tie as tie
 use Rattle.symbol_reader.proofs.TokenLaws.{tested, filled-follows, stored-refuses}
 
-due-requires : tie.Need-due-requires
-due-requires c κs = search needs
-
-reason-in-requires : tie.Need-reason-in-requires
-reason-in-requires c κs = search needs
-
-passed-requires : tie.Need-passed-requires
-passed-requires c κs = search needs
-
-filled-requires : tie.Need-filled-requires
-filled-requires c κs = search needs
-
-same-length : tie.Need-same-length
-same-length c = search needs
-
 returns : tie.Need-returns
 returns c =
     let f = c .before .before in
@@ -29,6 +14,4 @@ returns c =
     ((λ vs rs. filled-follows t (λ a k e d. e) (λ a. refl) (λ a d. refl) (λ a i v. refl) (f .filled .ensures)), stored-refuses t (f .filled .ensures) (λ c found h. h) (λ e. e))
 
 pub read-reason-word-spec : {M : Type 1} → statement M
-read-reason-word-spec =
-    tie.close
-    (tie.spec due-requires reason-in-requires passed-requires filled-requires same-length returns)
+read-reason-word-spec = tie.close (tie.spec (search needs) (search needs) (search needs) (search needs) (search needs) returns)

@@ -5,19 +5,10 @@ use Rattle.symbol_reader.proofs.words.read_word.Statement.{statement}
 use Rattle.symbol_reader.proofs.words.read_word.Tie as tie
 use Rattle.symbol_reader.proofs.TokenLaws.{tested, passed-follows}
 
-due-requires : tie.Need-due-requires
-due-requires c κs = search needs
-
-word-in-requires : tie.Need-word-in-requires
-word-in-requires c κs = search needs
-
-passed-requires : tie.Need-passed-requires
-passed-requires c κs = search needs
-
 returns : tie.Need-returns
 returns c =
     let m = c .before in
     λ ix vs rs. passed-follows (tested (m .before .due .ensures) (λ filled. m .word-in .ensures .1) (c .passed .ensures)) (λ a. refl) (λ a. refl) (λ a i v. refl)
 
 pub read-word-spec : {M : Type 1} → statement M
-read-word-spec = tie.close (tie.spec due-requires word-in-requires passed-requires returns)
+read-word-spec = tie.close (tie.spec (search needs) (search needs) (search needs) returns)

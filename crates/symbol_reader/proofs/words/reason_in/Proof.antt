@@ -5,34 +5,16 @@ use borrow.Author.Needs.{needs}
 use Rattle.symbol_reader.proofs.words.reason_in.Statement.{statement}
 use Rattle.symbol_reader.proofs.words.reason_in.Tie as tie
 
-slice-aggregate-is-word : tie.Need-slice-aggregate-is-word
-slice-aggregate-is-word c = search needs
-
-is-word-requires : tie.Need-is-word-requires
-is-word-requires c κs = search needs
-
 returns : tie.Need-returns
 returns c = record { is = rw (sym (c .before .before .is-word .ensures) ∙ c .before .if1 .taken, le-leb 64 _ (c .if2 .taken)) refl }
 
 returns-2 : tie.Need-returns-2
 returns-2 c = record { is = rw (sym (c .before .before .is-word .ensures) ∙ c .before .if1 .taken, lt-leb 64 _ (c .if2 .left)) refl }
 
-slice-aggregate-is-word-2 : tie.Need-slice-aggregate-is-word-2
-slice-aggregate-is-word-2 c = search needs
-
-is-word-requires-2 : tie.Need-is-word-requires-2
-is-word-requires-2 c κs = search needs
-
 returns-3 : tie.Need-returns-3
 returns-3 c =
     let e1 = c .before .before .before in
     record { is = rw (sym (e1 .before .is-word .ensures) ∙ e1 .if1 .left, sym (c .before .is-word2 .ensures) ∙ c .if3 .taken) refl }
-
-slice-aggregate-is-word-3 : tie.Need-slice-aggregate-is-word-3
-slice-aggregate-is-word-3 c = search needs
-
-is-word-requires-3 : tie.Need-is-word-requires-3
-is-word-requires-3 c κs = search needs
 
 returns-4 : tie.Need-returns-4
 returns-4 c =
@@ -40,24 +22,12 @@ returns-4 c =
     let e1 = e2 .before .before .before in
     record { is = rw (sym (e1 .before .is-word .ensures) ∙ e1 .if1 .left, sym (e2 .before .is-word2 .ensures) ∙ e2 .if3 .left, sym (c .before .is-word3 .ensures) ∙ c .if4 .taken) refl }
 
-slice-aggregate-is-word-4 : tie.Need-slice-aggregate-is-word-4
-slice-aggregate-is-word-4 c = search needs
-
-is-word-requires-4 : tie.Need-is-word-requires-4
-is-word-requires-4 c κs = search needs
-
 returns-5 : tie.Need-returns-5
 returns-5 c =
     let e3 = c .before .before .before in
     let e2 = e3 .before .before .before in
     let e1 = e2 .before .before .before in
     record { is = rw (sym (e1 .before .is-word .ensures) ∙ e1 .if1 .left, sym (e2 .before .is-word2 .ensures) ∙ e2 .if3 .left, sym (e3 .before .is-word3 .ensures) ∙ e3 .if4 .left, sym (c .before .is-word4 .ensures) ∙ c .if5 .taken) refl }
-
-slice-aggregate-is-word-5 : tie.Need-slice-aggregate-is-word-5
-slice-aggregate-is-word-5 c = search needs
-
-is-word-requires-5 : tie.Need-is-word-requires-5
-is-word-requires-5 c κs = search needs
 
 returns-6 : tie.Need-returns-6
 returns-6 c =
@@ -76,23 +46,6 @@ returns-7 c =
     record { is = rw (sym (e1 .before .is-word .ensures) ∙ e1 .if1 .left, sym (e2 .before .is-word2 .ensures) ∙ e2 .if3 .left, sym (e3 .before .is-word3 .ensures) ∙ e3 .if4 .left, sym (e4 .before .is-word4 .ensures) ∙ e4 .if5 .left, sym (c .before .is-word5 .ensures) ∙ c .if6 .left) refl }
 
 pub reason-in-spec : {M : Type 1} → statement M
-reason-in-spec =
-    tie.close
-    (tie.spec
-    slice-aggregate-is-word
-    is-word-requires
-    returns
-    returns-2
-    slice-aggregate-is-word-2
-    is-word-requires-2
-    returns-3
-    slice-aggregate-is-word-3
-    is-word-requires-3
-    returns-4
-    slice-aggregate-is-word-4
-    is-word-requires-4
-    returns-5
-    slice-aggregate-is-word-5
-    is-word-requires-5
-    returns-6
+reason-in-spec = tie.close (tie.spec (search needs) (search needs) returns returns-2 (search needs) (search needs) returns-3
+    (search needs) (search needs) returns-4 (search needs) (search needs) returns-5 (search needs) (search needs) returns-6
     returns-7)

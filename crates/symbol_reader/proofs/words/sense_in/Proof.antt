@@ -4,31 +4,13 @@ use borrow.Author.Needs.{needs}
 use Rattle.symbol_reader.proofs.words.sense_in.Statement.{statement}
 use Rattle.symbol_reader.proofs.words.sense_in.Tie as tie
 
-slice-aggregate-is-word : tie.Need-slice-aggregate-is-word
-slice-aggregate-is-word c = search needs
-
-is-word-requires : tie.Need-is-word-requires
-is-word-requires c κs = search needs
-
 returns : tie.Need-returns
 returns c = record { is = rw (sym (c .before .is-word .ensures) ∙ c .if1 .taken) refl }
-
-slice-aggregate-is-word-2 : tie.Need-slice-aggregate-is-word-2
-slice-aggregate-is-word-2 c = search needs
-
-is-word-requires-2 : tie.Need-is-word-requires-2
-is-word-requires-2 c κs = search needs
 
 returns-2 : tie.Need-returns-2
 returns-2 c =
     let e1 = c .before .before .before in
     record { is = rw (sym (e1 .before .is-word .ensures) ∙ e1 .if1 .left, sym (c .before .is-word2 .ensures) ∙ c .if2 .taken) refl }
-
-slice-aggregate-is-word-3 : tie.Need-slice-aggregate-is-word-3
-slice-aggregate-is-word-3 c = search needs
-
-is-word-requires-3 : tie.Need-is-word-requires-3
-is-word-requires-3 c κs = search needs
 
 returns-3 : tie.Need-returns-3
 returns-3 c =
@@ -43,16 +25,5 @@ returns-4 c =
     record { is = rw (sym (e1 .before .is-word .ensures) ∙ e1 .if1 .left, sym (e2 .before .is-word2 .ensures) ∙ e2 .if2 .left, sym (c .before .is-word3 .ensures) ∙ c .if3 .left) refl }
 
 pub sense-in-spec : {M : Type 1} → statement M
-sense-in-spec =
-    tie.close
-    (tie.spec
-    slice-aggregate-is-word
-    is-word-requires
-    returns
-    slice-aggregate-is-word-2
-    is-word-requires-2
-    returns-2
-    slice-aggregate-is-word-3
-    is-word-requires-3
-    returns-3
-    returns-4)
+sense-in-spec = tie.close (tie.spec (search needs) (search needs) returns (search needs) (search needs) returns-2 (search needs)
+    (search needs) returns-3 returns-4)

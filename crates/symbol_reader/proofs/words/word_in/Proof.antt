@@ -4,9 +4,6 @@ use borrow.Author.Needs.{needs}
 use Rattle.symbol_reader.proofs.words.word_in.Statement.{statement}
 use Rattle.symbol_reader.proofs.words.word_in.Tie as tie
 
-is-word-requires : tie.Need-is-word-requires
-is-word-requires c κs = search needs
-
 returns : tie.Need-returns
 returns c = let e = sym (c .before .is-word .ensures) ∙ c .if1 .taken in (record { is = rw e refl }, record { is = rw e refl })
 
@@ -14,4 +11,4 @@ returns-2 : tie.Need-returns-2
 returns-2 c = let e = sym (c .before .is-word .ensures) ∙ c .if1 .left in (record { is = rw e refl }, record { is = rw e refl })
 
 pub word-in-spec : {M : Type 1} → statement M
-word-in-spec = tie.close (tie.spec is-word-requires returns returns-2)
+word-in-spec = tie.close (tie.spec (search needs) returns returns-2)

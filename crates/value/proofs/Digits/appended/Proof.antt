@@ -7,14 +7,8 @@ use Rattle.value.proofs.Steps.{appended-wide, appended-fits, appended-n
 use Rattle.value.proofs.Digits.appended.Statement.{statement}
 use Rattle.value.proofs.Digits.appended.Tie as tie
 
-add-count : tie.Need-add-count
-add-count c = omega arith
-
 returns : tie.Need-returns
 returns c = appended-wide _ _ _ (c .if1 .taken)
-
-power-of-ten-requires : tie.Need-power-of-ten-requires
-power-of-ten-requires c κs = search needs
 
 -- the number with the digits after it fits
 module _ (c : tie.After-struct-known2) where
@@ -34,5 +28,4 @@ returns-2 : tie.Need-returns-2
 returns-2 c = appended-narrow _ _ _ _ (c .before .power-of-ten .ensures) (c .before .before .if1 .left) (at-start c .pre .1) (at-start c .pre .2)
 
 pub appended-spec : {M : Type 1} → statement M
-appended-spec =
-    tie.close (tie.spec add-count returns power-of-ten-requires mul-t7 add-t8 returns-2)
+appended-spec = tie.close (tie.spec (λ c. omega arith) returns (search needs) mul-t7 add-t8 returns-2)

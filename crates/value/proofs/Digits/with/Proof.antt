@@ -5,14 +5,8 @@ use Rattle.value.proofs.Steps.{longer-zero, one-place, longer-digit}
 use Rattle.value.proofs.Digits.with.Statement.{statement}
 use Rattle.value.proofs.Digits.with.Tie as tie
 
-add-t4 : tie.Need-add-t4
-add-t4 c = omega arith
-
 returns : tie.Need-returns
 returns c = longer-zero _ _ (c .before .if1 .taken) (c .before .before .pre .1)
-
-add-appended : tie.Need-add-appended
-add-appended c = omega arith
 
 appended-requires : tie.Need-appended-requires
 appended-requires c κs =
@@ -23,4 +17,4 @@ returns-2 : tie.Need-returns-2
 returns-2 c = longer-digit _ _ (c .before .before .if1 .left) _ (c .appended .ensures)
 
 pub with-spec : {M : Type 1} → statement M
-with-spec = tie.close (tie.spec add-t4 returns add-appended appended-requires returns-2)
+with-spec = tie.close (tie.spec (λ c. omega arith) returns (λ c. omega arith) appended-requires returns-2)

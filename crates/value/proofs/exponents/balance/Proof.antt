@@ -6,12 +6,6 @@ use Rattle.value.proofs.ExponentLaws.{balance-less, balance-high, balan
 use Rattle.value.proofs.exponents.balance.Statement.{statement}
 use Rattle.value.proofs.exponents.balance.Tie as tie
 
-sub-difference : tie.Need-sub-difference
-sub-difference c = omega arith
-
-difference-requires : tie.Need-difference-requires
-difference-requires c κs = search needs
-
 returns : tie.Need-returns
 returns c = λ n s. balance-less _ _ _ n s (c .before .if1 .taken) (c .before .before .pre .1) (c .difference .result) (c .difference .ensures)
 
@@ -21,20 +15,8 @@ returns-2 c = λ n s. balance-high _ _ _ n s (c .before .if1 .left) (c .if2 .tak
 add-difference : tie.Need-add-difference
 add-difference c = omega (arith, c .before .before .pre .0)
 
-difference-requires-2 : tie.Need-difference-requires-2
-difference-requires-2 c κs = search needs
-
 returns-3 : tie.Need-returns-3
 returns-3 c = λ n s. balance-more _ _ _ n s (c .before .before .if1 .left) (c .before .if2 .left) (c .difference2 .result) (c .difference2 .ensures)
 
 pub balance-spec : {M : Type 1} → statement M
-balance-spec =
-    tie.close
-    (tie.spec
-    sub-difference
-    difference-requires
-    returns
-    returns-2
-    add-difference
-    difference-requires-2
-    returns-3)
+balance-spec = tie.close (tie.spec (λ c. omega arith) (search needs) returns returns-2 add-difference (search needs) returns-3)

@@ -11,9 +11,6 @@ returns c = difference-high _ _ (c .before .if1 .taken) (c .if2 .taken)
 returns-2 : tie.Need-returns-2
 returns-2 c = difference-up _ _ (c .before .if1 .taken) (c .if2 .left)
 
-sub-k : tie.Need-sub-k
-sub-k c = omega arith
-
 returns-3 : tie.Need-returns-3
 returns-3 c = difference-low _ _ (omega arith) (c .if3 .taken)
 
@@ -21,4 +18,4 @@ returns-4 : tie.Need-returns-4
 returns-4 c = difference-down _ _ (omega arith) (c .if3 .left)
 
 pub difference-spec : {M : Type 1} → statement M
-difference-spec = tie.close (tie.spec returns returns-2 sub-k returns-3 returns-4)
+difference-spec = tie.close (tie.spec returns returns-2 (λ c. omega arith) returns-3 returns-4)

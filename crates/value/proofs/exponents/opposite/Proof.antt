@@ -7,15 +7,6 @@ use Rattle.value.proofs.ExponentLaws.{opposite-up, opposite-down, oppos
 use Rattle.value.proofs.exponents.opposite.Statement.{statement}
 use Rattle.value.proofs.exponents.opposite.Tie as tie
 
-enum-known-x : tie.Need-enum-known-x
-enum-known-x c = search needs
-
-enum-known-x-2 : tie.Need-enum-known-x-2
-enum-known-x-2 c = search needs
-
-enum-told : tie.Need-enum-told
-enum-told c = search needs
-
 returns : tie.Need-returns
 returns c = λ z h. opposite-up z _ (subst (PowerIs z) (c .before .x .given .1) h)
 
@@ -26,5 +17,4 @@ returns-3 : tie.Need-returns-3
 returns-3 c = λ z h. opposite-outside z (subst (PowerIs z) (c .enum-told .given .1) h)
 
 pub opposite-spec : {M : Type 1} → statement M
-opposite-spec =
-    tie.close (tie.spec enum-known-x enum-known-x-2 enum-told returns returns-2 returns-3)
+opposite-spec = tie.close (tie.spec (search needs) (search needs) (search needs) returns returns-2 returns-3)

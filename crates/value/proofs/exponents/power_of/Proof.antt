@@ -12,9 +12,6 @@ use Rattle.value.proofs.exponents.power_of.Tie as tie
 balance-requires : tie.Need-balance-requires
 balance-requires c κs = (omega (arith, c .before .pre .0, c .before .pre .1), omega (arith, c .before .pre .0, c .before .pre .1))
 
-opposite-requires : tie.Need-opposite-requires
-opposite-requires c κs = search needs
-
 balance-requires-2 : tie.Need-balance-requires-2
 balance-requires-2 c κs = (omega (arith, c .before .pre .0, c .before .pre .1), omega (arith, c .before .pre .0, c .before .pre .1))
 
@@ -31,5 +28,4 @@ returns-2 c =
     (subst (λ (z : ℤ). PowerIs z (c .balance2 .result)) (power-raised n (a .places) (a .zeros)) (c .balance2 .ensures n s))
 
 pub power-of-spec : {M : Type 1} → statement M
-power-of-spec =
-    tie.close (tie.spec balance-requires opposite-requires balance-requires-2 returns returns-2)
+power-of-spec = tie.close (tie.spec balance-requires (search needs) balance-requires-2 returns returns-2)

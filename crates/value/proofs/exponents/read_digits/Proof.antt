@@ -25,12 +25,6 @@ returns c = no-digits-left _ _ (c .if1 .taken)
 loop-holds : tie.Need-loop-holds Inv-loop μ-loop
 loop-holds c = counting-starts _ _
 
-shared-slice-read-b : tie.Need-shared-slice-read-b Inv-loop μ-loop
-shared-slice-read-b c = omega arith
-
-is-digit-requires : tie.Need-is-digit-requires Inv-loop μ-loop
-is-digit-requires c κs = search needs
-
 -- the byte is a digit
 module _ (c : tie.Then2 Inv-loop μ-loop) where
   abbrev at-loop : tie.At-loop Inv-loop μ-loop
@@ -48,12 +42,6 @@ cast-with-digit c = omega (arith, digit-bounds _ (is-digit c) .1)
 with-digit-requires : tie.Need-with-digit-requires Inv-loop μ-loop
 with-digit-requires c κs = omega (arith, digit-bounds _ (is-digit c) .1)
 
-add-at : tie.Need-add-at Inv-loop μ-loop
-add-at c = omega arith
-
-loop-less : tie.Need-loop-less Inv-loop μ-loop
-loop-less c = omega arith
-
 loop-again : tie.Need-loop-again Inv-loop μ-loop
 loop-again c =
     let l = at-loop (c .before) in
@@ -68,20 +56,5 @@ returns-3 : tie.Need-returns-3 Inv-loop μ-loop
 returns-3 c = counting-ends _ _ _ _ (c .before .loop .inv) (c .loop-test .left) (c .before .before .if1 .left) _
 
 pub read-digits-spec : {M : Type 1} → statement M
-read-digits-spec =
-    tie.close
-    (tie.spec
-    Inv-loop
-    μ-loop
-    returns
-    loop-holds
-    shared-slice-read-b
-    is-digit-requires
-    sub-with-digit
-    cast-with-digit
-    with-digit-requires
-    add-at
-    loop-less
-    loop-again
-    returns-2
-    returns-3)
+read-digits-spec = tie.close (tie.spec Inv-loop μ-loop returns loop-holds (λ c. omega arith) (search needs) sub-with-digit
+    cast-with-digit with-digit-requires (λ c. omega arith) (λ c. omega arith) loop-again returns-2 returns-3)

@@ -9,45 +9,16 @@ use Rattle.value.proofs.exponents.read_exponent.Tie as tie
 returns : tie.Need-returns
 returns c = nothing-after _ _ (c .if1 .taken)
 
-shared-slice-read-b : tie.Need-shared-slice-read-b
-shared-slice-read-b c = search needs
-
-add-read-digits : tie.Need-add-read-digits
-add-read-digits c = omega arith
-
-read-digits-requires : tie.Need-read-digits-requires
-read-digits-requires c κs = search needs
-
 returns-2 : tie.Need-returns-2
 returns-2 c = minus-read _ _ (c .before .before .before .if1 .left) (c .before .if2 .taken) (c .read-digits .result) (c .read-digits .ensures)
 
-add-read-digits-2 : tie.Need-add-read-digits-2
-add-read-digits-2 c = omega arith
-
-read-digits-requires-2 : tie.Need-read-digits-requires-2
-read-digits-requires-2 c κs = search needs
-
 returns-3 : tie.Need-returns-3
 returns-3 c = plus-read _ _ (c .before .before .before .before .if1 .left) (c .before .if3 .taken) (c .read-digits2 .result) (c .read-digits2 .ensures)
-
-read-digits-requires-3 : tie.Need-read-digits-requires-3
-read-digits-requires-3 c κs = search needs
 
 returns-4 : tie.Need-returns-4
 returns-4 c =
     unsigned-read _ _ (c .before .before .before .before .if1 .left) (c .before .before .if2 .left) (c .before .if3 .left) (c .read-digits3 .result) (c .read-digits3 .ensures)
 
 pub read-exponent-spec : {M : Type 1} → statement M
-read-exponent-spec =
-    tie.close
-    (tie.spec
-    returns
-    shared-slice-read-b
-    add-read-digits
-    read-digits-requires
-    returns-2
-    add-read-digits-2
-    read-digits-requires-2
-    returns-3
-    read-digits-requires-3
-    returns-4)
+read-exponent-spec = tie.close (tie.spec returns (search needs) (λ c. omega arith) (search needs) returns-2 (λ c. omega arith)
+    (search needs) returns-3 (search needs) returns-4)

@@ -28,32 +28,11 @@ inside c = subst (λ (n : ℕ). c .before .loop .k < n) (c .before .before .pair
 sizes : (c : tie.Start Inv-loop μ-loop) → (length (c .args .t1 .nums) ≡ 256) × (length (c .args .t1 .dens) ≡ 256)
 sizes c = (search needs, search needs)
 
-pairs-in-requires : tie.Need-pairs-in-requires Inv-loop μ-loop
-pairs-in-requires c κs = search needs
-
 loop-holds : tie.Need-loop-holds Inv-loop μ-loop
 loop-holds c = combining _ _ _ _ _ (sizes (c .before .before) .0) (sizes (c .before .before) .1)
 
-mul-v : tie.Need-mul-v Inv-loop μ-loop
-mul-v c = search needs
-
-shared-slice-read-v : tie.Need-shared-slice-read-v Inv-loop μ-loop
-shared-slice-read-v c = search needs
-
 cast-v : tie.Need-cast-v Inv-loop μ-loop
 cast-v c = omega (arith, c .shared-slice-known2 .given (c .before .before .loop .k))
-
-value-at-requires : tie.Need-value-at-requires Inv-loop μ-loop
-value-at-requires c κs = search needs
-
-coefficient-at-requires : tie.Need-coefficient-at-requires Inv-loop μ-loop
-coefficient-at-requires c κs = search needs
-
-plus-product-requires : tie.Need-plus-product-requires Inv-loop μ-loop
-plus-product-requires c κs = search needs
-
-enum-known-s : tie.Need-enum-known-s Inv-loop μ-loop
-enum-known-s c = search needs
 
 returns : tie.Need-returns Inv-loop μ-loop
 returns c =
@@ -63,24 +42,6 @@ returns c =
       λ a place. combining-stop _ _ _ _ _ (l .before .loop .inv) (inside l) (v .value-at .ensures) (w .before .coefficient-at .ensures) (w .plus-product .result) (w .plus-product .ensures) (c .match .keys2) (record { takes = a; place = place }),
       λ a. combining-fractions _ _ _ _ _ (l .before .loop .inv) a,
     )
-
-mul-num : tie.Need-mul-num Inv-loop μ-loop
-mul-num c = search needs
-
-element-set-from-num : tie.Need-element-set-from-num Inv-loop μ-loop
-element-set-from-num c = search needs
-
-mul-den : tie.Need-mul-den Inv-loop μ-loop
-mul-den c = search needs
-
-element-set-from-den : tie.Need-element-set-from-den Inv-loop μ-loop
-element-set-from-den c = search needs
-
-add-k : tie.Need-add-k Inv-loop μ-loop
-add-k c = search needs
-
-loop-less : tie.Need-loop-less Inv-loop μ-loop
-loop-less c = search needs
 
 loop-again : tie.Need-loop-again Inv-loop μ-loop
 loop-again c =
@@ -92,12 +53,6 @@ loop-again c =
     (w .8 .given .1 ∙ ap Value (ap₂ aFraction (sym (back-of _ (w .10 .given .0 .1))) (sym (back-of _ (w .11 .given .1 .0 .1)))))))
     (λ w. combining-same _ _ _ _ _ (w .1) (combining-over _ _ _ _ _ (l .before .loop .inv) (inside l) (w .0 .left)))
     (c .if1 .came)
-
-plus-product-requires-2 : tie.Need-plus-product-requires-2 Inv-loop μ-loop
-plus-product-requires-2 c κs = search needs
-
-enum-known-s-2 : tie.Need-enum-known-s-2 Inv-loop μ-loop
-enum-known-s-2 c = search needs
 
 returns-2 : tie.Need-returns-2 Inv-loop μ-loop
 returns-2 c =
@@ -118,29 +73,6 @@ returns-3 c =
     )
 
 pub next-spec : {M : Type 1} → statement M
-next-spec =
-    tie.close
-    (tie.spec
-    Inv-loop
-    μ-loop
-    pairs-in-requires
-    loop-holds
-    mul-v
-    shared-slice-read-v
-    cast-v
-    value-at-requires
-    coefficient-at-requires
-    plus-product-requires
-    enum-known-s
-    returns
-    mul-num
-    element-set-from-num
-    mul-den
-    element-set-from-den
-    add-k
-    loop-less
-    loop-again
-    plus-product-requires-2
-    enum-known-s-2
-    returns-2
-    returns-3)
+next-spec = tie.close (tie.spec Inv-loop μ-loop (search needs) loop-holds (search needs) (search needs) cast-v (search needs)
+    (search needs) (search needs) (search needs) returns (search needs) (search needs) (search needs) (search needs)
+    (search needs) (search needs) loop-again (search needs) (search needs) returns-2 returns-3)

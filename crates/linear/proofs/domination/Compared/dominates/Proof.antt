@@ -19,15 +19,9 @@ unfolding isAbsurd
 not-absurd c n coefficient row h =
     ⊎-elim (λ w. sym (w .2 .left) ∙ w .1 .ensures ∙ and-yes _ (h .zero) (w .0 .taken)) (λ w. and-no _ (h .zero) (w .left)) (c .if1 .came)
 
-fails-at-zero-requires : tie.Need-fails-at-zero-requires
-fails-at-zero-requires c κs = search needs
-
 returns : tie.Need-returns
 unfolding dominates isAbsurd
 returns c = λ n coefficient row h v w. or-yes _ (c .before .fails-at-zero .ensures ∙ and-yes _ (h .zero) (c .before .before .if1 .taken)) (c .if2 .taken)
-
-is-tighter-requires : tie.Need-is-tighter-requires
-is-tighter-requires c κs = search needs
 
 returns-2 : tie.Need-returns-2
 unfolding dominates sameCoefficients
@@ -38,5 +32,4 @@ unfolding dominates sameCoefficients
 returns-3 c = λ n coefficient row h v w. and-no _ (h .same) (c .if3 .left) ∙ or-no _ (not-absurd (c .before) n coefficient row h) refl
 
 pub dominates-spec : {M : Type 1} → statement M
-dominates-spec =
-    tie.close (tie.spec fails-at-zero-requires returns is-tighter-requires returns-2 returns-3)
+dominates-spec = tie.close (tie.spec (search needs) returns (search needs) returns-2 returns-3)

@@ -11,9 +11,6 @@ use Rattle.linear.proofs.Numbers.{at-least-zero}
 use Rattle.linear.proofs.signs.Signs.next.Statement.{statement}
 use Rattle.linear.proofs.signs.Signs.next.Tie as tie
 
-signed-multiplier-requires : tie.Need-signed-multiplier-requires
-signed-multiplier-requires c κs = search needs
-
 returns : tie.Need-returns
 returns c =
     let m = c .before .before .signed-multiplier in
@@ -25,4 +22,4 @@ returns c =
     (at-most-zero (toZ w64 (ofZ w64 (m .result))) ∙ ap (λ (z : ℤ). not (ltZ (pos 0) z)) n)
 
 pub next-spec : {M : Type 1} → statement M
-next-spec = tie.close (tie.spec signed-multiplier-requires returns)
+next-spec = tie.close (tie.spec (search needs) returns)
