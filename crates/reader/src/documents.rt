@@ -91,7 +91,7 @@ pub(crate) fn read_document(
 ) -> Document
     ensures { λ r. ⌜ (Room (now (text .entry)) (state (startOf (now (text .entry))) (now (index .entry)) (now (values .entry)) (now (rows .entry))) → Reads certificate (λ t i. r .header ≡ headerOf t) (now (text .entry)) (state (startOf (now (text .entry))) (now (index .entry)) (now (values .entry)) (now (rows .entry))) (now (index .exit)) (now (values .exit)) (now (rows .exit)) (r .answer)) ⌝ }
 {
-    let mut prints = [0u64; 1024];
+    let mut prints = [0u64; symbol_reader::names::PRINT_WORDS];
     let s = problem::read_version(text, start(text));
     let variables = problem::read_variables(text, s, index);
     let n = answers::count_of(variables, limits::VARIABLES);

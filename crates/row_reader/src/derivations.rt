@@ -13,28 +13,19 @@ ghost use Rattle.symbol_reader.specs.Follows.{Always, Follows, Tells};
 ghost use Rattle.symbol_reader.specs.Leaves.{namesIn};
 ghost use Rattle.symbol_reader.specs.Marks.{Fingerprinted};
 ghost use Rattle.row_reader.specs.Parts.{justification, derivationBut, wordCell};
+ghost use Rattle.tables.specs.Limits.{mostVariables, mostRows};
+ghost use Rattle.tables.specs.Words.{asm};
 use crate::lists;
 use crate::rows;
 use grammar::Refusal;
 use symbol_reader::Step;
 use symbol_reader::numbers;
 use symbol_reader::words;
-
-// The rows of a certificate are at most this many.
-const MOST_ROWS: usize = 1024;
-
-// The cells of the reasons' words.
-const ASM: usize = 0;
-
-const LIN: usize = 1;
-
-const RND: usize = 2;
-
-const UNS: usize = 3;
+use tables::limits;
 
 // i1 l1 i2 l2 are due, each below `own`.
 fn read_unsplit(text: &[u8], s: Step, own: usize, index: &mut [u16]) -> Step
-    ensures { λ r. ⌜ ((vs : List ℤ) (rs : List ℕ) → own ≤ 1024 → Follows Always (λ _. unsplit own) any (now (text .entry)) s (now (index .entry)) vs rs (now (index .exit)) vs rs r) ⌝ }
+    ensures { λ r. ⌜ ((vs : List ℤ) (rs : List ℕ) → own ≤ mostRows → Follows Always (λ _. unsplit own) any (now (text .entry)) s (now (index .entry)) vs rs (now (index .exit)) vs rs r) ⌝ }
 {
     let s = numbers::read_index(text, s, own, index);
     let s = numbers::read_index(text, s, own, index);
@@ -44,18 +35,18 @@ fn read_unsplit(text: &[u8], s: Step, own: usize, index: &mut [u16]) -> Step
 
 // What follows a reason's word is due; the answer's number is the word's cell.
 fn read_detail(text: &[u8], s: Step, own: usize, index: &mut [u16], values: &mut [i32]) -> Step
-    ensures { λ r. ⌜ ((w : ReasonWord) (rs : List ℕ) → own ≤ 1024 → Tells (the reasonCell) w s → Follows Always (λ _. detail own w) any (now (text .entry)) s (now (index .entry)) (now (values .entry)) rs (now (index .exit)) (now (values .exit)) rs r) ⌝ }
+    ensures { λ r. ⌜ ((w : ReasonWord) (rs : List ℕ) → own ≤ mostRows → Tells (the reasonCell) w s → Follows Always (λ _. detail own w) any (now (text .entry)) s (now (index .entry)) (now (values .entry)) rs (now (index .exit)) (now (values .exit)) rs r) ⌝ }
 {
     let Step::Next(word, _) = s else {
         return s;
     };
-    if word == LIN {
+    if word == tables::words::LIN {
         return lists::read_pair_list(text, s, own, index, values);
     }
-    if word == RND {
+    if word == tables::words::RND {
         return lists::read_pair_list(text, s, own, index, values);
     }
-    if word == UNS {
+    if word == tables::words::UNS {
         return read_unsplit(text, s, own, index);
     }
     s
@@ -70,7 +61,7 @@ fn read_reason(
     index: &mut [u16],
     values: &mut [i32],
 ) -> Step
-    ensures { λ r. ⌜ ((rs : List ℕ) → own ≤ 1024 → Follows Always (λ _. reason own assumed) (the wordCell) (now (text .entry)) s (now (index .entry)) (now (values .entry)) rs (now (index .exit)) (now (values .exit)) rs r) ⌝ }
+    ensures { λ r. ⌜ ((rs : List ℕ) → own ≤ mostRows → Follows Always (λ _. reason own assumed) (the wordCell) (now (text .entry)) s (now (index .entry)) (now (values .entry)) rs (now (index .exit)) (now (values .exit)) rs r) ⌝ }
 {
     let word = words::read_reason_word(text, s, assumed, index);
     let s = read_detail(text, word, own, index, values);
@@ -87,12 +78,12 @@ fn read_justification(
     index: &mut [u16],
     values: &mut [i32],
 ) -> Step
-    ensures { λ r. ⌜ ((rs : List ℕ) → own ≤ 1024 → total ≤ 1024 → Follows Always (λ _. justification own total assumed) (the (λ j. wordCell (j .1 .0))) (now (text .entry)) s (now (index .entry)) (now (values .entry)) rs (now (index .exit)) (now (values .exit)) rs r) ⌝ }
+    ensures { λ r. ⌜ ((rs : List ℕ) → own ≤ mostRows → total ≤ mostRows → Follows Always (λ _. justification own total assumed) (the (λ j. wordCell (j .1 .0))) (now (text .entry)) s (now (index .entry)) (now (values .entry)) rs (now (index .exit)) (now (values .exit)) rs r) ⌝ }
 {
     let s = words::read_word(text, s, b"{");
     let word = read_reason(text, s, own, assumed, index, values);
     let s = words::read_word(text, word, b"}");
-    let s = numbers::read_index_or(text, s, b"-1", rows::NONE, total, index);
+    let s = numbers::read_index_or(text, s, b"-1", tables::words::NEVER as u16, total, index);
     symbol_reader::carry(word, s)
 }
 
@@ -110,7 +101,7 @@ fn read_derivation(
     rows: &mut [u16],
     prints: &mut [u64],
 ) -> Step
-    ensures { λ r. ⌜ (n ≤ 256 → own < 1024 → total ≤ 1024 → Fingerprinted (namesIn (now (text .entry)) (slice 0 (4 * own) (now (rows .entry)))) (now (prints .entry)) → Follows Always (λ _. derivationBut n own total assumed (namesIn (now (text .entry)) (slice 0 (4 * own) (now (rows .entry))))) (λ d k. (wordCell (d .reason) ≡ k) × Fingerprinted (namesIn (now (text .entry)) (slice 0 (4 * own) (now (rows .entry))) ++ (d .row .name .bytes ∷ [])) (now (prints .exit))) (now (text .entry)) s (now (index .entry)) (now (values .entry)) (now (rows .entry)) (now (index .exit)) (now (values .exit)) (now (rows .exit)) r) ⌝ }
+    ensures { λ r. ⌜ (n ≤ mostVariables → own < mostRows → total ≤ mostRows → Fingerprinted (namesIn (now (text .entry)) (slice 0 (4 * own) (now (rows .entry)))) (now (prints .entry)) → Follows Always (λ _. derivationBut n own total assumed (namesIn (now (text .entry)) (slice 0 (4 * own) (now (rows .entry))))) (λ d k. (wordCell (d .reason) ≡ k) × Fingerprinted (namesIn (now (text .entry)) (slice 0 (4 * own) (now (rows .entry))) ++ (d .row .name .bytes ∷ [])) (now (prints .exit))) (now (text .entry)) s (now (index .entry)) (now (values .entry)) (now (rows .entry)) (now (index .exit)) (now (values .exit)) (now (rows .exit)) r) ⌝ }
 {
     let s = rows::read_row(text, s, n, own, index, values, rows, prints);
     read_justification(text, s, own, total, assumed, index, values)
@@ -118,21 +109,25 @@ fn read_derivation(
 
 // So many rows after m others are at most as many as a certificate may have.
 fn has_rows(m: usize, count: usize) -> bool
-    ensures { λ r. ⌜ (r ≡ true → m + count ≤ 1024) ⌝ }
-    ensures { λ r. ⌜ (m + count ≤ 1024 → r ≡ true) ⌝ }
+    ensures { λ r. ⌜ (r ≡ true → m + count ≤ mostRows) ⌝ }
+    ensures { λ r. ⌜ (m + count ≤ mostRows → r ≡ true) ⌝ }
 {
-    if MOST_ROWS < m {
+    if limits::ROWS < m {
         return false;
     }
-    count <= MOST_ROWS - m
+    count <= limits::ROWS - m
 }
 
 // How many assumptions there are with a reason whose word has this cell.
 fn with_reason(assumed: usize, word: usize) -> usize
     requires { ⌜ assumed < 2 ^ 63 ⌝ }
-    ensures { λ r. ⌜ r ≡ assumed + cond (eqb word 0) 1 0 ⌝ }
+    ensures { λ r. ⌜ r ≡ assumed + cond (eqb word asm) 1 0 ⌝ }
 {
-    if word == ASM { assumed + 1 } else { assumed }
+    if word == tables::words::ASM {
+        assumed + 1
+    } else {
+        assumed
+    }
 }
 
 // As many derivations are due as the answer's number says, after m given rows, the fingerprints of whose names are marked.
@@ -146,7 +141,7 @@ pub fn read_derivations(
     rows: &mut [u16],
     prints: &mut [u64],
 ) -> Step
-    ensures { λ r. ⌜ (n ≤ 256 → m ≤ 1024 → Follows (λ d _. (d ≤ 1024 - m) × Fingerprinted (namesIn (now (text .entry)) (slice 0 (4 * m) (now (rows .entry)))) (now (prints .entry))) (λ d. items d (derivation n m (namesIn (now (text .entry)) (slice 0 (4 * m) (now (rows .entry)))) d)) any (now (text .entry)) s (now (index .entry)) (now (values .entry)) (now (rows .entry)) (now (index .exit)) (now (values .exit)) (now (rows .exit)) r) ⌝ }
+    ensures { λ r. ⌜ (n ≤ mostVariables → m ≤ mostRows → Follows (λ d _. (d ≤ mostRows - m) × Fingerprinted (namesIn (now (text .entry)) (slice 0 (4 * m) (now (rows .entry)))) (now (prints .entry))) (λ d. items d (derivation n m (namesIn (now (text .entry)) (slice 0 (4 * m) (now (rows .entry)))) d)) any (now (text .entry)) s (now (index .entry)) (now (values .entry)) (now (rows .entry)) (now (index .exit)) (now (values .exit)) (now (rows .exit)) r) ⌝ }
 {
     let Step::Next(count, c) = s else {
         return s;

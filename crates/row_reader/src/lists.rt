@@ -9,6 +9,8 @@ ghost use Rattle.symbol_reader.specs.Steps.{any};
 ghost use Rattle.symbol_reader.specs.Follows.{Always, Follows};
 ghost use Rattle.symbol_reader.specs.Marks.{Marks};
 ghost use Rattle.row_reader.specs.Parts.{pairBut};
+ghost use Rattle.tables.specs.Limits.{largest, mostRows};
+use symbol_reader::Cursor;
 use symbol_reader::Step;
 use symbol_reader::numbers;
 
@@ -21,7 +23,7 @@ fn read_pair(
     index: &mut [u16],
     values: &mut [i32],
 ) -> Step
-    ensures { λ r. ⌜ ((used : List ℕ) (rs : List ℕ) → bound ≤ 65535 → bound ≤ 64 * length (now (seen .entry)) → Marks used (now (seen .entry)) → Follows Always (λ _. pairBut bound used) (λ p n. Marks (used ++ (p .index ∷ [])) (now (seen .exit))) (now (text .entry)) s (now (index .entry)) (now (values .entry)) rs (now (index .exit)) (now (values .exit)) rs r) ⌝ }
+    ensures { λ r. ⌜ ((used : List ℕ) (rs : List ℕ) → bound ≤ largest → bound ≤ 64 * length (now (seen .entry)) → Marks used (now (seen .entry)) → Follows Always (λ _. pairBut bound used) (λ p n. Marks (used ++ (p .index ∷ [])) (now (seen .exit))) (now (text .entry)) s (now (index .entry)) (now (values .entry)) rs (now (index .exit)) (now (values .exit)) rs r) ⌝ }
     ensures { λ r. ⌜ length (now (seen .exit)) ≡ length (now (seen .entry)) ⌝ }
 {
     let s = numbers::read_new_index(text, s, bound, seen, index);
@@ -30,12 +32,12 @@ fn read_pair(
 
 // As many pairs are due as the answer's number says, with distinct indices below the bound.
 pub fn read_pairs(text: &[u8], s: Step, bound: usize, index: &mut [u16], values: &mut [i32]) -> Step
-    ensures { λ r. ⌜ ((rs : List ℕ) → bound ≤ 1024 → Follows Always (λ k. items k (pair bound)) any (now (text .entry)) s (now (index .entry)) (now (values .entry)) rs (now (index .exit)) (now (values .exit)) rs r) ⌝ }
+    ensures { λ r. ⌜ ((rs : List ℕ) → bound ≤ mostRows → Follows Always (λ k. items k (pair bound)) any (now (text .entry)) s (now (index .entry)) (now (values .entry)) rs (now (index .exit)) (now (values .exit)) rs r) ⌝ }
 {
     let Step::Next(count, c) = s else {
         return s;
     };
-    let mut seen = [0u64; 16];
+    let mut seen = [0u64; numbers::INDEX_WORDS];
     let mut d = c;
     let mut i = 0;
     while i < count {
@@ -43,7 +45,12 @@ pub fn read_pairs(text: &[u8], s: Step, bound: usize, index: &mut [u16], values:
         let Step::Next(_, e) = s else {
             return s;
         };
-        d = e;
+        // by its fields: they were stored one by one, and a copy of all would wait for the last
+        d = Cursor {
+            at: e.at,
+            cells: e.cells,
+            values: e.values,
+        };
         i += 1;
     }
     Step::Next(0, d)
@@ -57,7 +64,7 @@ pub fn read_pair_list(
     index: &mut [u16],
     values: &mut [i32],
 ) -> Step
-    ensures { λ r. ⌜ ((rs : List ℕ) → bound ≤ 1024 → Follows Always (λ _. pairList bound) any (now (text .entry)) s (now (index .entry)) (now (values .entry)) rs (now (index .exit)) (now (values .exit)) rs r) ⌝ }
+    ensures { λ r. ⌜ ((rs : List ℕ) → bound ≤ mostRows → Follows Always (λ _. pairList bound) any (now (text .entry)) s (now (index .entry)) (now (values .entry)) rs (now (index .exit)) (now (values .exit)) rs r) ⌝ }
 {
     let s = numbers::read_count(text, s, bound, index);
     read_pairs(text, s, bound, index, values)

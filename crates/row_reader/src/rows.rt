@@ -9,8 +9,10 @@ ghost use Rattle.grammar.specs.Certificate.{listedTerms, side, row, rowNames};
 ghost use Rattle.symbol_reader.specs.Steps.{any};
 ghost use Rattle.symbol_reader.specs.Follows.{Always, Follows, cellOr, Tells};
 ghost use Rattle.symbol_reader.specs.Leaves.{namesIn};
-ghost use Rattle.symbol_reader.specs.Marks.{Fingerprinted};
+ghost use Rattle.symbol_reader.specs.Marks.{Fingerprinted, printWords};
 ghost use Rattle.row_reader.specs.Parts.{rowBody};
+ghost use Rattle.tables.specs.Limits.{mostVariables, mostRows};
+ghost use Rattle.tables.specs.Words.{OBJ};
 use crate::lists;
 use symbol_reader::Step;
 use symbol_reader::names;
@@ -18,24 +20,14 @@ use symbol_reader::numbers;
 use symbol_reader::values;
 use symbol_reader::words;
 
-// The cell of `OBJ` in the place of a term list, and of the last index `-1`.
-pub(crate) const NONE: u16 = 65535;
-
-// The bound of a count of at most n.
-fn bound_of(n: usize) -> usize
-    ensures { λ r. ⌜ (n < 65535 → r ≡ suc n) ⌝ }
-{
-    if n < 65535 { n + 1 } else { n }
-}
-
 // What follows the count of terms, or the word `OBJ`, is due: the number of the answer tells which.
 fn read_listed(text: &[u8], s: Step, n: usize, index: &mut [u16], values: &mut [i32]) -> Step
-    ensures { λ r. ⌜ ((k : Or ℕ) (rs : List ℕ) → n ≤ 256 → Tells (cellOr 65535 (suc n)) k s → Follows Always (λ _. listedTerms n k) any (now (text .entry)) s (now (index .entry)) (now (values .entry)) rs (now (index .exit)) (now (values .exit)) rs r) ⌝ }
+    ensures { λ r. ⌜ ((k : Or ℕ) (rs : List ℕ) → n ≤ mostVariables → Tells (cellOr OBJ (suc n)) k s → Follows Always (λ _. listedTerms n k) any (now (text .entry)) s (now (index .entry)) (now (values .entry)) rs (now (index .exit)) (now (values .exit)) rs r) ⌝ }
 {
     let Step::Next(k, _) = s else {
         return s;
     };
-    if k == (NONE as usize) {
+    if k == tables::words::OBJ {
         return s;
     }
     lists::read_pairs(text, s, n, index, values)
@@ -43,15 +35,22 @@ fn read_listed(text: &[u8], s: Step, n: usize, index: &mut [u16], values: &mut [
 
 // A row's left side is due: `OBJ`, or a count and that many terms.
 fn read_side(text: &[u8], s: Step, n: usize, index: &mut [u16], values: &mut [i32]) -> Step
-    ensures { λ r. ⌜ ((rs : List ℕ) → n ≤ 256 → Follows Always (λ _. side n) any (now (text .entry)) s (now (index .entry)) (now (values .entry)) rs (now (index .exit)) (now (values .exit)) rs r) ⌝ }
+    ensures { λ r. ⌜ ((rs : List ℕ) → n ≤ mostVariables → Follows Always (λ _. side n) any (now (text .entry)) s (now (index .entry)) (now (values .entry)) rs (now (index .exit)) (now (values .exit)) rs r) ⌝ }
 {
-    let s = numbers::read_index_or(text, s, b"OBJ", NONE, bound_of(n), index);
+    let s = numbers::read_index_or(
+        text,
+        s,
+        b"OBJ",
+        tables::words::OBJ as u16,
+        numbers::bound_of(n),
+        index,
+    );
     read_listed(text, s, n, index, values)
 }
 
 // What follows a row's name is due.
 fn read_row_body(text: &[u8], s: Step, n: usize, index: &mut [u16], values: &mut [i32]) -> Step
-    ensures { λ r. ⌜ ((rs : List ℕ) → n ≤ 256 → Follows Always (λ _. rowBody n) any (now (text .entry)) s (now (index .entry)) (now (values .entry)) rs (now (index .exit)) (now (values .exit)) rs r) ⌝ }
+    ensures { λ r. ⌜ ((rs : List ℕ) → n ≤ mostVariables → Follows Always (λ _. rowBody n) any (now (text .entry)) s (now (index .entry)) (now (values .entry)) rs (now (index .exit)) (now (values .exit)) rs r) ⌝ }
 {
     let s = words::read_sense(text, s, index);
     let s = values::read_value(text, s, values);
@@ -70,7 +69,7 @@ pub(crate) fn read_row(
     rows: &mut [u16],
     prints: &mut [u64],
 ) -> Step
-    ensures { λ r. ⌜ (n ≤ 256 → own < 1024 → Fingerprinted (namesIn (now (text .entry)) (slice 0 (4 * own) (now (rows .entry)))) (now (prints .entry)) → Follows Always (λ _. row n own (namesIn (now (text .entry)) (slice 0 (4 * own) (now (rows .entry))))) (λ a k. Fingerprinted (namesIn (now (text .entry)) (slice 0 (4 * own) (now (rows .entry))) ++ (a .name .bytes ∷ [])) (now (prints .exit))) (now (text .entry)) s (now (index .entry)) (now (values .entry)) (now (rows .entry)) (now (index .exit)) (now (values .exit)) (now (rows .exit)) r) ⌝ }
+    ensures { λ r. ⌜ (n ≤ mostVariables → own < mostRows → Fingerprinted (namesIn (now (text .entry)) (slice 0 (4 * own) (now (rows .entry)))) (now (prints .entry)) → Follows Always (λ _. row n own (namesIn (now (text .entry)) (slice 0 (4 * own) (now (rows .entry))))) (λ a k. Fingerprinted (namesIn (now (text .entry)) (slice 0 (4 * own) (now (rows .entry))) ++ (a .name .bytes ∷ [])) (now (prints .exit))) (now (text .entry)) s (now (index .entry)) (now (values .entry)) (now (rows .entry)) (now (index .exit)) (now (values .exit)) (now (rows .exit)) r) ⌝ }
 {
     let s = names::read_row_name(text, s, own, rows, prints);
     read_row_body(text, s, n, index, values)
@@ -87,7 +86,7 @@ pub fn read_rows(
     rows: &mut [u16],
     prints: &mut [u64],
 ) -> Step
-    ensures { λ r. ⌜ (n ≤ 256 → count ≤ 1024 → length (now (prints .entry)) ≡ 1024 → Follows Always (λ _. items count (λ before. row n (length before) (rowNames before))) (λ a k. Fingerprinted (rowNames a) (now (prints .exit))) (now (text .entry)) s (now (index .entry)) (now (values .entry)) (now (rows .entry)) (now (index .exit)) (now (values .exit)) (now (rows .exit)) r) ⌝ }
+    ensures { λ r. ⌜ (n ≤ mostVariables → count ≤ mostRows → length (now (prints .entry)) ≡ printWords → Follows Always (λ _. items count (λ before. row n (length before) (rowNames before))) (λ a k. Fingerprinted (rowNames a) (now (prints .exit))) (now (text .entry)) s (now (index .entry)) (now (values .entry)) (now (rows .entry)) (now (index .exit)) (now (values .exit)) (now (rows .exit)) r) ⌝ }
 {
     let Step::Next(_, c) = s else {
         return s;

@@ -10,7 +10,7 @@ ghost use Rattle.grammar.specs.Certificate.{rowNames, newIndexBelow, version, v
 ghost use Rattle.grammar.specs.Tree.{Variables, Integers, Constraints};
 ghost use Rattle.symbol_reader.specs.Steps.{any};
 ghost use Rattle.symbol_reader.specs.Follows.{Always, Follows, below};
-ghost use Rattle.symbol_reader.specs.Marks.{Fingerprinted};
+ghost use Rattle.symbol_reader.specs.Marks.{Fingerprinted, printWords};
 ghost use Rattle.section_reader.specs.Sections.{SaysObjective};
 use crate::answers;
 use row_reader::lists;
@@ -21,6 +21,9 @@ use symbol_reader::numbers;
 use symbol_reader::words;
 use tables::Pairs;
 use tables::limits;
+
+// The words that mark variables, each below 256.
+const VARIABLE_WORDS: usize = 4;
 
 // `VER` `1.0` are due.
 pub fn read_version(text: &[u8], s: Step) -> Step
@@ -67,7 +70,7 @@ fn read_indices(text: &[u8], s: Step, bound: usize, index: &mut [u16]) -> Step
     let Step::Next(count, c) = s else {
         return s;
     };
-    let mut seen = [0u64; 4];
+    let mut seen = [0u64; VARIABLE_WORDS];
     let mut d = c;
     let mut i = 0;
     while i < count {
@@ -134,7 +137,7 @@ pub fn read_constraints(
     rows: &mut [u16],
     prints: &mut [u64],
 ) -> Step
-    ensures { λ r. ⌜ (n ≤ mostVariables → length (now (prints .entry)) ≡ 1024 → Follows Always (λ _. constraints n) (λ (c : Constraints) k. below (suc mostRows) (c .count) k × Fingerprinted (rowNames (c .rows)) (now (prints .exit))) (now (text .entry)) s (now (index .entry)) (now (values .entry)) (now (rows .entry)) (now (index .exit)) (now (values .exit)) (now (rows .exit)) r) ⌝ }
+    ensures { λ r. ⌜ (n ≤ mostVariables → length (now (prints .entry)) ≡ printWords → Follows Always (λ _. constraints n) (λ (c : Constraints) k. below (suc mostRows) (c .count) k × Fingerprinted (rowNames (c .rows)) (now (prints .exit))) (now (text .entry)) s (now (index .entry)) (now (values .entry)) (now (rows .entry)) (now (index .exit)) (now (values .exit)) (now (rows .exit)) r) ⌝ }
 {
     let s = words::read_word(text, s, b"CON");
     let given = numbers::read_count(text, s, limits::ROWS, index);

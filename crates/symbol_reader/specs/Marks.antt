@@ -26,7 +26,11 @@ abbrev pub MarksMore : List ℕ → List ℕ → Step → Type 0
 MarksMore words words′ (Next n c) = (k : ℕ) → k < 64 * length words → marked words′ k ≡ (eqb k n || marked words k)
 MarksMore words words′ (Stop q p) = words′ ≡ words
 
+-- the words that mark all fingerprints, of which there are 65,536
+abbrev pub printWords : ℕ
+printWords = 1024
+
 -- the fingerprints of these names are marked, in words that can mark every one
 pub record Fingerprinted (names : List Bytes) (words : List ℕ) : Type 0 where
-  pub enough : length words ≡ 1024
+  pub enough : length words ≡ printWords
   pub are : (w : Bytes) → isAmong same w names ≡ true → marked words (fingerprintOf w) ≡ true

@@ -14,6 +14,7 @@ ghost use Rattle.symbol_reader.specs.Steps.{the};
 ghost use Rattle.symbol_reader.specs.Follows.{Always, Follows, Refuses};
 ghost use Rattle.symbol_reader.specs.Leaves.{Means, tokenAt, NoRow, namesIn, fingerprintOf};
 ghost use Rattle.symbol_reader.specs.Marks.{Fingerprinted};
+ghost use Rattle.tables.specs.Limits.{mostEntries};
 use crate::Step;
 use crate::marks;
 use crate::numbers;
@@ -22,6 +23,9 @@ use crate::tokens;
 use crate::tokens::Meaning;
 use crate::tokens::Span;
 use grammar::Refusal;
+
+// The words that mark all fingerprints, of which there are 65,536.
+pub const PRINT_WORDS: usize = 1024;
 
 // Every byte of the token from .. to is one of 33 to 126.
 fn is_name(text: &[u8], from: usize, to: usize) -> bool
@@ -64,7 +68,7 @@ pub fn read_name(text: &[u8], s: Step) -> Step
 
 // A name for this row of the row table is due, that may repeat.
 pub fn read_free_name(text: &[u8], s: Step, row: usize, rows: &mut [u16]) -> Step
-    ensures { λ r. ⌜ ((ix : List ℕ) (vs : List ℤ) → row < 1088 → Follows Always (λ _. symbol (rowName row [])) (the (λ a. 0)) (now (text .entry)) s ix vs (now (rows .entry)) ix vs (now (rows .exit)) r) ⌝ }
+    ensures { λ r. ⌜ ((ix : List ℕ) (vs : List ℤ) → row < mostEntries → Follows Always (λ _. symbol (rowName row [])) (the (λ a. 0)) (now (text .entry)) s ix vs (now (rows .entry)) ix vs (now (rows .exit)) r) ⌝ }
     ensures { λ r. ⌜ Refuses (NoRow row (now (rows .entry))) (rowName row []) (now (text .entry)) s (now (rows .exit) ≡ now (rows .entry)) r ⌝ }
 {
     let t = tokens::due(text, s);
@@ -131,7 +135,7 @@ fn row_name_in(text: &[u8], t: Span, row: usize, rows: &[u16], prints: &[u64]) -
 // A name for this row of the row table is due, none of those of the rows below it, whose fingerprints are marked; its own is marked
 // besides.
 pub fn read_row_name(text: &[u8], s: Step, row: usize, rows: &mut [u16], prints: &mut [u64]) -> Step
-    ensures { λ r. ⌜ ((ix : List ℕ) (vs : List ℤ) → row < 1088 → Fingerprinted (namesIn (now (text .entry)) (slice 0 (4 * row) (now (rows .entry)))) (now (prints .entry)) → Follows Always (λ _. symbol (rowName row (namesIn (now (text .entry)) (slice 0 (4 * row) (now (rows .entry)))))) (λ a n. Fingerprinted (namesIn (now (text .entry)) (slice 0 (4 * row) (now (rows .entry))) ++ (a .bytes ∷ [])) (now (prints .exit))) (now (text .entry)) s ix vs (now (rows .entry)) ix vs (now (rows .exit)) r) ⌝ }
+    ensures { λ r. ⌜ ((ix : List ℕ) (vs : List ℤ) → row < mostEntries → Fingerprinted (namesIn (now (text .entry)) (slice 0 (4 * row) (now (rows .entry)))) (now (prints .entry)) → Follows Always (λ _. symbol (rowName row (namesIn (now (text .entry)) (slice 0 (4 * row) (now (rows .entry)))))) (λ a n. Fingerprinted (namesIn (now (text .entry)) (slice 0 (4 * row) (now (rows .entry))) ++ (a .bytes ∷ [])) (now (prints .exit))) (now (text .entry)) s ix vs (now (rows .entry)) ix vs (now (rows .exit)) r) ⌝ }
     ensures { λ r. ⌜ (Fingerprinted (namesIn (now (text .entry)) (slice 0 (4 * row) (now (rows .entry)))) (now (prints .entry)) → Refuses (NoRow row (now (rows .entry))) (rowName row (namesIn (now (text .entry)) (slice 0 (4 * row) (now (rows .entry))))) (now (text .entry)) s ((now (rows .exit) ≡ now (rows .entry)) × (now (prints .exit) ≡ now (prints .entry))) r) ⌝ }
 {
     let t = tokens::due(text, s);

@@ -11,12 +11,14 @@ ghost use Rattle.grammar.specs.Certificate.{sense, senseCell, direction, direct
 ghost use Rattle.symbol_reader.specs.Steps.{the};
 ghost use Rattle.symbol_reader.specs.Follows.{Always, Follows, Refuses};
 ghost use Rattle.symbol_reader.specs.Leaves.{Given, Means, tokenAt, NoCell, Placed, senses, directions, claims};
+ghost use Rattle.tables.specs.Limits.{mostAssumptions};
 use crate::Step;
 use crate::stores;
 use crate::tokens;
 use crate::tokens::Meaning;
 use crate::tokens::Span;
 use grammar::Refusal;
+use tables::limits;
 
 // ---- this word
 
@@ -134,12 +136,12 @@ pub fn read_claim_word(text: &[u8], s: Step, index: &mut [u16]) -> Step
 
 // ---- `asm`, `lin`, `rnd`, `uns` or `sol`
 
-// After 64 assumptions `asm` is out of range.
+// After as many assumptions as there may be `asm` is out of range.
 fn reason_in(text: &[u8], t: Span, assumed: usize) -> Meaning
-    ensures { λ r. ⌜ Means (choice reasonCell reasonWords (λ w. isAsm w && leb 64 assumed)) reasonCell (tokenAt (now (text .entry)) t) r ⌝ }
+    ensures { λ r. ⌜ Means (choice reasonCell reasonWords (λ w. isAsm w && leb mostAssumptions assumed)) reasonCell (tokenAt (now (text .entry)) t) r ⌝ }
 {
     if text::is_word(text, t.from, t.to, b"asm") {
-        if 64 <= assumed {
+        if limits::ASSUMPTIONS <= assumed {
             return Meaning::Refused(Refusal::OutOfRange);
         }
         return Meaning::Number(0);
@@ -161,8 +163,8 @@ fn reason_in(text: &[u8], t: Span, assumed: usize) -> Meaning
 
 // A reason's word is due, after so many assumptions.
 pub fn read_reason_word(text: &[u8], s: Step, assumed: usize, index: &mut [u16]) -> Step
-    ensures { λ r. ⌜ ((vs : List ℤ) (rs : List ℕ) → Follows Always (λ _. symbol (choice reasonCell reasonWords (λ w. isAsm w && leb 64 assumed))) (the reasonCell) (now (text .entry)) s (now (index .entry)) vs rs (now (index .exit)) vs rs r) ⌝ }
-    ensures { λ r. ⌜ Refuses (NoCell (now (index .entry))) (choice reasonCell reasonWords (λ w. isAsm w && leb 64 assumed)) (now (text .entry)) s (now (index .exit) ≡ now (index .entry)) r ⌝ }
+    ensures { λ r. ⌜ ((vs : List ℤ) (rs : List ℕ) → Follows Always (λ _. symbol (choice reasonCell reasonWords (λ w. isAsm w && leb mostAssumptions assumed))) (the reasonCell) (now (text .entry)) s (now (index .entry)) vs rs (now (index .exit)) vs rs r) ⌝ }
+    ensures { λ r. ⌜ Refuses (NoCell (now (index .entry))) (choice reasonCell reasonWords (λ w. isAsm w && leb mostAssumptions assumed)) (now (text .entry)) s (now (index .exit) ≡ now (index .entry)) r ⌝ }
 {
     let t = tokens::due(text, s);
     let s = tokens::passed(s, t, reason_in(text, t, assumed));

@@ -1,6 +1,6 @@
 -- Digits put after others: the ways out of `Digits::appended` and `Digits::with`.
 -- Assumes nothing.
-use mathlib.Core.Path.{_≡_, refl, sym, _∙_, ap}
+use mathlib.Core.Path.{_≡_, refl, sym, _∙_, ap, subst}
 use mathlib.Core.Bool.{false}
 use mathlib.Core.List.{[], _∷_, _++_}
 use Prim.Native.Nat.{ℕ, _+_, _-_, _*_, _^_, _≤_, _<_}
@@ -54,6 +54,20 @@ longer-zero d digit e b =
 -- any other digit counts, and the zeros before it
 pub one-place : (digit i : ℕ) → digit ≤ 9 → digit < 10 ^ (i + 1)
 one-place digit i h = omega (arith, ten-next i, ten-positive i)
+
+-- where no zero is held back, ten times the number
+module _ (d : Digits) (digit : ℕ) (e : d .zeros ≡ 0) (h : d .count < mostDigits) (b : d .number < 10 ^ d .count) (l : digit ≤ 9) where
+  ten : 10 ≡ powerOfTen 1
+  unfolding powerOfTen
+  ten = refl
+
+  pub ten-times-fits : d .number * 10 + digit < 2 ^ 64
+  ten-times-fits = appended-fits d 1 digit 10 ten (omega arith) b (omega arith)
+
+  pub ten-times : Appended d (d .zeros + 1) digit (record { number = d .number * 10 + digit; count = d .count + 1; zeros = 0 })
+  ten-times =
+      subst (λ (n : ℕ). Appended d (n + 1) digit (record { number = d .number * 10 + digit; count = d .count + 1; zeros = 0 })) (sym e)
+      (appended-narrow d 1 digit 10 ten (omega arith) b (omega arith))
 
 module _ (d : Digits) (digit : ℕ) (z : digit ≡ 0 → ⊥) (r : Digits) (t : Appended d (d .zeros + 1) digit r) where
   abbrev byte : ℕ

@@ -95,7 +95,7 @@ impl Digits {
         }
     }
 
-    // The digits with one more. A zero is held back.
+    // The digits with one more. A zero is held back; where none is, a digit needs no power of ten.
     fn with(self, digit: u64) -> Digits
         requires { ⌜ (self .count + self .zeros < room) × (self .number < 10 ^ self .count) × (digit ≤ 9) ⌝ }
         ensures { λ r. ⌜ Longer self digit r ⌝ }
@@ -106,6 +106,15 @@ impl Digits {
                 count: self.count,
                 zeros: self.zeros + 1,
             };
+        }
+        if self.zeros == 0 {
+            if self.count < MOST_DIGITS {
+                return Digits {
+                    number: self.number * 10 + digit,
+                    count: self.count + 1,
+                    zeros: 0,
+                };
+            }
         }
         self.appended(self.zeros + 1, digit)
     }

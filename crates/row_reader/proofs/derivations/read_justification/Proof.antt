@@ -21,4 +21,4 @@ returns c =
 
 pub read-justification-spec : {M : Type 1} → statement M
 read-justification-spec = tie.close (tie.spec (search needs) (search needs) (search needs) (search needs) (search needs)
-    (search needs) (search needs) (search needs) (search needs) (search needs) returns)
+    (search needs) (search needs) (search needs) (search needs) (search needs) (search needs) returns)

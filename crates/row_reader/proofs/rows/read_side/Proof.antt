@@ -25,4 +25,4 @@ returns c =
 
 pub read-side-spec : {M : Type 1} → statement M
 read-side-spec = tie.close (tie.spec (search needs) (search needs) (search needs) (search needs) (search needs) (search needs)
-    returns)
+    (search needs) returns)

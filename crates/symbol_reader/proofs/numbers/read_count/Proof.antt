@@ -10,22 +10,19 @@ use Rattle.grammar.specs.Format.{symbol, number}
 use Rattle.symbol_reader.specs.Follows.{Always, Follows, below, Refuses}
 use Rattle.symbol_reader.specs.Leaves.{NoCell}
 
-add-bound : tie.Need-add-bound
-add-bound c = omega (arith, c .least .ensures)
-
 returns : tie.Need-returns
 returns c =
     let k = c .before .before .read-index in
-    let l = c .before .before .before .before .least in
+    let b = c .before .before .before .before .bound-of in
     let s = c .before .before .before .before .before .before .before .args in
     let ix = k .last .1 .1 .1 .0 in (
       λ vs rs small.
-          let e : l .result + 1 ≡ suc (s .most) = omega (arith, l .ensures, small) in
+          let e = b .ensures small in
           subst (λ (b : ℕ). Follows Always (λ n. symbol (number b [])) (below b) (s .text .now) (s .s) (s .index .now) vs rs ix vs rs (k .result)) e (k .ensures .0 vs rs (omega (arith, e, small))),
       λ small.
-          let e : l .result + 1 ≡ suc (s .most) = omega (arith, l .ensures, small) in
+          let e = b .ensures small in
           subst (λ (b : ℕ). Refuses (NoCell (s .index .now)) (number b []) (s .text .now) (s .s) (ix ≡ s .index .now) (k .result)) e (k .ensures .1 (omega (arith, e, small))),
     )
 
 pub read-count-spec : {M : Type 1} → statement M
-read-count-spec = tie.close (tie.spec (search needs) add-bound (search needs) (search needs) returns)
+read-count-spec = tie.close (tie.spec (search needs) (search needs) (search needs) returns)
