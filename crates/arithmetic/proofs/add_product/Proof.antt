@@ -42,4 +42,4 @@ returns-3 : tie.Need-returns-3
 returns-3 c = c .add-product-any .ensures
 
 pub add-product-spec : {M : Type 1} → statement M
-add-product-spec = tie.close (tie.spec returns (search needs) returns-2 (search needs) returns-3)
+add-product-spec = tie.close (tie.spec returns (λ c. search needs) returns-2 (λ c. search needs) returns-3)

@@ -23,4 +23,4 @@ returns-2 c = λ u v w.
     c .sum .ensures u (product-is (s .args .a) (s .args .b) _ gave) ∙ sym (ap (λ (o : Outcome Fraction). after o (sumOf (s .args .s))) gave)
 
 pub add-product-any-spec : {M : Type 1} → statement M
-add-product-any-spec = tie.close (tie.spec (search needs) (search needs) returns (search needs) returns-2)
+add-product-any-spec = tie.close (tie.spec (λ c. search needs) (λ c. search needs) returns (λ c. search needs) returns-2)

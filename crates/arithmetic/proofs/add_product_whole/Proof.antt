@@ -56,5 +56,5 @@ returns-2 c =
     ∙ sym (ap (λ (o : Outcome Fraction). after o (λ p. within (over (s .args .s +ℤ p .num) 1))) (whole-narrow z h))
 
 pub add-product-whole-spec : {M : Type 1} → statement M
-add-product-whole-spec = tie.close (tie.spec (search needs) (search needs) returns whole-sum-requires (search needs)
-    (search needs) returns-2)
+add-product-whole-spec = tie.close (tie.spec (λ c. search needs) (λ c. search needs) returns whole-sum-requires
+    (λ c. search needs) (λ c. search needs) returns-2)

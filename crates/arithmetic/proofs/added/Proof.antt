@@ -43,4 +43,4 @@ returns c =
     (c .denominators .ensures)
 
 pub added-spec : {M : Type 1} → statement M
-added-spec = tie.close (tie.spec (search needs) (search needs) add-t (search needs) (search needs) returns)
+added-spec = tie.close (tie.spec (λ c. search needs) (λ c. search needs) add-t (λ c. search needs) (λ c. search needs) returns)

@@ -20,4 +20,4 @@ returns c = λ v w.
     ∙ sym (on-fractions _ _ (are-both (s .args .a) (s .args .b) (v, w)))
 
 pub compare-spec : {M : Type 1} → statement M
-compare-spec = tie.close (tie.spec (search needs) (search needs) (search needs) returns)
+compare-spec = tie.close (tie.spec (λ c. search needs) (λ c. search needs) (λ c. search needs) returns)

@@ -28,4 +28,4 @@ returns c =
     (product-is c, subst (λ (z : ℤ). mag z < 4611686018427387904) (sym (product-is c)) small)
 
 pub cross-spec : {M : Type 1} → statement M
-cross-spec = tie.close (tie.spec (search needs) (search needs) returns)
+cross-spec = tie.close (tie.spec (λ c. search needs) (λ c. search needs) returns)

@@ -21,4 +21,4 @@ returns c =
     ∙ ap₂ _*_ (c .before .before .before .magnitude .ensures ∙ ap natAbs (back-of (s .args .a .den) (told-a s .1))) (c .before .magnitude2 .ensures ∙ ap natAbs (back-of (s .args .b .den) (told-b s .1)))
 
 pub denominators-spec : {M : Type 1} → statement M
-denominators-spec = tie.close (tie.spec (search needs) (search needs) (search needs) returns)
+denominators-spec = tie.close (tie.spec (λ c. search needs) (λ c. search needs) (λ c. search needs) returns)

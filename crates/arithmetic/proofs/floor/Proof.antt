@@ -34,4 +34,4 @@ returns-2 : tie.Need-returns-2
 returns-2 c = λ v. absurd (subst T (sym (is-shaped (c .before .before .args .a) v) ∙ sym (c .before .is-shaped .ensures) ∙ c .if1 .left) tt)
 
 pub floor-spec : {M : Type 1} → statement M
-floor-spec = tie.close (tie.spec (search needs) floor-of-requires returns returns-2)
+floor-spec = tie.close (tie.spec (λ c. search needs) floor-of-requires returns returns-2)

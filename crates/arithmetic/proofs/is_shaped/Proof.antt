@@ -22,4 +22,4 @@ returns-2 c =
     rw (not-false (ltZ (pos 0) (f .den)) (sym (at-most-zero (f .den)) ∙ (rw (back-of (f .den) (k .struct-told2 .given .1 .0 .1)) at (c .before .if1 .left))), n)
 
 pub is-shaped-spec : {M : Type 1} → statement M
-is-shaped-spec = tie.close (tie.spec (search needs) (search needs) returns returns-2)
+is-shaped-spec = tie.close (tie.spec (λ c. search needs) (λ c. search needs) returns returns-2)

@@ -21,4 +21,4 @@ returns : tie.Need-returns
 returns c = found c
 
 pub magnitude-spec : {M : Type 1} → statement M
-magnitude-spec = tie.close (tie.spec cast-magnitude-wide (search needs) cast-result returns)
+magnitude-spec = tie.close (tie.spec cast-magnitude-wide (λ c. search needs) cast-result returns)

@@ -32,4 +32,4 @@ returns c =
     ap₂ over (ap₂ withSign (sign s) (top-is (c .before)) ∙ product-sign (s .args .a .num) (s .args .b .num)) (c .denominators .ensures)
 
 pub multiplied-spec : {M : Type 1} → statement M
-multiplied-spec = tie.close (tie.spec (search needs) (search needs) (search needs) (search needs) returns)
+multiplied-spec = tie.close (tie.spec (λ c. search needs) (λ c. search needs) (λ c. search needs) (λ c. search needs) returns)

@@ -15,4 +15,4 @@ returns c = λ v w.
     ∙ sym (on-fractions _ _ (are-both (s .args .a) (s .args .b) (v, w)))
 
 pub product-spec : {M : Type 1} → statement M
-product-spec = tie.close (tie.spec (search needs) (search needs) returns)
+product-spec = tie.close (tie.spec (λ c. search needs) (λ c. search needs) returns)

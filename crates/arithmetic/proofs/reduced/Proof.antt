@@ -40,5 +40,5 @@ returns-3 c =
     ∙ sym (on-fractions _ _ (ap not (ne-eqb (a .d) 0 (c .before .before .before .if1 .left))))
 
 pub reduced-spec : {M : Type 1} → statement M
-reduced-spec = tie.close (tie.spec returns (search needs) returns-2 (search needs) div-within div-within-2 (search needs)
-    returns-3)
+reduced-spec = tie.close (tie.spec returns (λ c. search needs) returns-2 (λ c. search needs) div-within div-within-2
+    (λ c. search needs) returns-3)

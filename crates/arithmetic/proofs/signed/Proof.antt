@@ -16,4 +16,4 @@ returns-2 : tie.Need-returns-2
 returns-2 c = rw (back-pos (c .before .pre), c .if1 .left)
 
 pub signed-spec : {M : Type 1} → statement M
-signed-spec = tie.close (tie.spec (search needs) sub-result returns returns-2)
+signed-spec = tie.close (tie.spec (λ c. search needs) sub-result returns returns-2)

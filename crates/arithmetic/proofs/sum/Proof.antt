@@ -50,4 +50,5 @@ returns-3 c = λ v w.
     ∙ known (s .args .a) (s .args .b) v w
 
 pub sum-spec : {M : Type 1} → statement M
-sum-spec = tie.close (tie.spec (search needs) (search needs) returns (search needs) returns-2 (search needs) returns-3)
+sum-spec = tie.close (tie.spec (λ c. search needs) (λ c. search needs) returns (λ c. search needs) returns-2 (λ c. search needs)
+    returns-3)

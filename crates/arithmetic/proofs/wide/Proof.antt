@@ -8,4 +8,4 @@ mul-result : tie.Need-mul-result
 mul-result c = product-fits (search needs) (search needs)
 
 pub wide-spec : {M : Type 1} → statement M
-wide-spec = tie.close (tie.spec mul-result (search needs))
+wide-spec = tie.close (tie.spec mul-result (λ c. search needs))

@@ -23,6 +23,7 @@ returns-3 c =
     _ (c .before .before .before .before .check .ensures) (c .before .before .reason2 .given .1) (ap (refuses (refusalNumber (c .before .before .reason2 .given .0 .0))) (c .line-of .ensures))
 
 pub verify-spec : {M : Type 1} → statement M
-verify-spec = tie.close (tie.spec (search needs) (search needs) (search needs) (search needs) (search needs) (search needs)
-    (search needs) (search needs) (search needs) (search needs) returns (search needs) (search needs) (search needs) returns-2
-    (search needs) (search needs) (search needs) returns-3)
+verify-spec = tie.close (tie.spec (λ c. search needs) (λ c. search needs) (λ c. search needs) (λ c. search needs)
+    (λ c. search needs) (λ c. search needs) (λ c. search needs) (λ c. search needs) (λ c. search needs) (λ c. search needs)
+    returns (λ c. search needs) (λ c. search needs) (λ c. search needs) returns-2 (λ c. search needs) (λ c. search needs)
+    (λ c. search needs) returns-3)

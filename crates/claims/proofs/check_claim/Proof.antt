@@ -18,4 +18,4 @@ returns-2 c =
     λ tree e. ap (refused 17) (c .last-place .ensures tree _ _ e) ∙ ap (λ b. require b 17 (lastPlace (h .derivation) (lastRow tree))) (sym (c .before .if1 .left) ∙ c .before .before .is-proved .ensures tree e)
 
 pub check-claim-spec : {M : Type 1} → statement M
-check-claim-spec = tie.close (tie.spec (search needs) returns (search needs) returns-2)
+check-claim-spec = tie.close (tie.spec (λ c. search needs) returns (λ c. search needs) returns-2)

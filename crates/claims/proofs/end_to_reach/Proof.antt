@@ -16,4 +16,4 @@ returns c = (
 )
 
 pub end-to-reach-spec : {M : Type 1} → statement M
-end-to-reach-spec = tie.close (tie.spec (search needs) returns)
+end-to-reach-spec = tie.close (tie.spec (λ c. search needs) returns)

@@ -18,4 +18,4 @@ returns-2 c =
     c .entry-at .ensures .place .is ∙ e .row _ (omega (arith, lt)) .place-is ∙ place-of-last e _ lt
 
 pub last-place-spec : {M : Type 1} → statement M
-last-place-spec = tie.close (tie.spec returns (search needs) (search needs) returns-2)
+last-place-spec = tie.close (tie.spec returns (λ c. search needs) (λ c. search needs) returns-2)

@@ -32,4 +32,5 @@ returns-2 c =
     ∙ ap (λ (v : Verdict). v andThen checkReason tree os (d .row) (d .reason)) (each-require _ 11 (d .row .name .place) (named (d .reason)))
 
 pub check-derivation-spec : {M : Type 1} → statement M
-check-derivation-spec = tie.close (tie.spec (search needs) (search needs) (search needs) returns (search needs) returns-2)
+check-derivation-spec = tie.close (tie.spec (λ c. search needs) (λ c. search needs) (λ c. search needs) returns
+    (λ c. search needs) returns-2)

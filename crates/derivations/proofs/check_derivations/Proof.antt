@@ -46,5 +46,6 @@ returns-2 : tie.Need-returns-2 Inv-loop μ-loop
 returns-2 c = λ tree os e b f. left-none e os (c .before .loop .inv .0) (c .before .loop .inv .1 tree os e b f) (c .loop-test .left)
 
 pub check-derivations-spec : {M : Type 1} → statement M
-check-derivations-spec = tie.close (tie.spec Inv-loop μ-loop (search needs) (search needs) loop-holds (search needs)
-    (search needs) (search needs) returns (search needs) (search needs) loop-again returns-2)
+check-derivations-spec = tie.close (tie.spec Inv-loop μ-loop (λ c. search needs) (λ c. search needs) loop-holds
+    (λ c. search needs) (λ c. search needs) (λ c. search needs) returns (λ c. search needs) (λ c. search needs) loop-again
+    returns-2)

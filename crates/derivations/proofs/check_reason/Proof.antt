@@ -46,6 +46,7 @@ returns-5 c =
     ∙ sym (ap (checkReason tree os r) (reason-is k (c .before .before .before .word-of .ensures) (c .before .enum-told5 .given .1) .1))
 
 pub check-reason-spec : {M : Type 1} → statement M
-check-reason-spec = tie.close (tie.spec (search needs) (search needs) (search needs) (search needs) (search needs)
-    (search needs) (search needs) (search needs) (search needs) (search needs) (search needs) (search needs) (search needs)
-    (search needs) returns returns-2 returns-3 returns-4 returns-5)
+check-reason-spec = tie.close (tie.spec (λ c. search needs) (λ c. search needs) (λ c. search needs) (λ c. search needs)
+    (λ c. search needs) (λ c. search needs) (λ c. search needs) (λ c. search needs) (λ c. search needs) (λ c. search needs)
+    (λ c. search needs) (λ c. search needs) (λ c. search needs) (λ c. search needs) returns returns-2 returns-3 returns-4
+    returns-5)

@@ -70,5 +70,5 @@ returns c =
     sym (gcd-same (l .x)) ∙ ap (gcd (l .x)) e ∙ l .inv .same
 
 pub gcd-odd-spec : {M : Type 1} → statement M
-gcd-odd-spec = tie.close (tie.spec Inv-loop μ-loop loop-holds (search needs) (λ c. omega arith) cast-y shr-y loop-less
+gcd-odd-spec = tie.close (tie.spec Inv-loop μ-loop loop-holds (λ c. search needs) (λ c. omega arith) cast-y shr-y loop-less
     loop-again cast-y-2 shr-y-2 loop-less-2 loop-again-2 returns)

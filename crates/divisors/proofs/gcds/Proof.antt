@@ -11,5 +11,5 @@ gcds-narrow-requires c κs =
     (c .before .before .before .before .before .is-narrow .ensures (c .before .before .before .before .if1 .taken), c .before .before .before .is-narrow2 .ensures (c .before .before .if2 .taken), c .before .is-narrow3 .ensures (c .if3 .taken))
 
 pub gcds-spec : {M : Type 1} → statement M
-gcds-spec = tie.close (tie.spec (search needs) (search needs) (search needs) gcds-narrow-requires (search needs) (search needs)
-    (search needs) (search needs) (search needs))
+gcds-spec = tie.close (tie.spec (λ c. search needs) (λ c. search needs) (λ c. search needs) gcds-narrow-requires
+    (λ c. search needs) (λ c. search needs) (λ c. search needs) (λ c. search needs) (λ c. search needs))

@@ -13,4 +13,4 @@ with-twos-requires-2 : tie.Need-with-twos-requires-2
 with-twos-requires-2 c κs = let s = c .before .before in (s .pre .0 .positive-x, s .pre .0 .positive-y, going-zero _ _ _ _ (s .pre .1) (omega (arith, s .pre .2, c .if1 .left)))
 
 pub reached-spec : {M : Type 1} → statement M
-reached-spec = tie.close (tie.spec with-twos-requires with-twos-requires-2 (search needs) (search needs))
+reached-spec = tie.close (tie.spec with-twos-requires with-twos-requires-2 (λ c. search needs) (λ c. search needs))

@@ -34,4 +34,5 @@ returns-3 c =
     sym (ap (λ (o : Outcome Fraction). after o (sumOf (s .args .sum))) (gave k) ∙ not-fractions _ _ (first-false _ _ (sym (c .before .is-fraction .ensures) ∙ c .if1 .left)))
 
 pub add-product-spec : {M : Type 1} → statement M
-add-product-spec = tie.close (tie.spec (search needs) (search needs) returns (search needs) (search needs) returns-2 returns-3)
+add-product-spec = tie.close (tie.spec (λ c. search needs) (λ c. search needs) returns (λ c. search needs) (λ c. search needs)
+    returns-2 returns-3)

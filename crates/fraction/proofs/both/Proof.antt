@@ -23,4 +23,4 @@ returns-2 c =
     sym (not-both-shaped (s .args .a) (s .args .b) (told-a s) (told-b s) (sym (c .before .both-shaped .ensures) ∙ c .if1 .left))
 
 pub both-spec : {M : Type 1} → statement M
-both-spec = tie.close (tie.spec (search needs) (search needs) returns returns-2)
+both-spec = tie.close (tie.spec (λ c. search needs) (λ c. search needs) returns returns-2)

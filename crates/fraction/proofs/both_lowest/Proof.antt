@@ -38,5 +38,5 @@ returns-4 c =
     (found-more (s .args .a) (p .parts .result .x) (p .parts .result .y) (g .gcds .result .a) (p .parts .ensures .0) (p .parts .ensures .1) (g .gcds .ensures .0) (c .if3 .left)))
 
 pub both-lowest-spec : {M : Type 1} → statement M
-both-lowest-spec = tie.close (tie.spec (search needs) (search needs) (search needs) returns (search needs) returns-2
-    (search needs) returns-3 returns-4)
+both-lowest-spec = tie.close (tie.spec (λ c. search needs) (λ c. search needs) (λ c. search needs) returns (λ c. search needs)
+    returns-2 (λ c. search needs) returns-3 returns-4)

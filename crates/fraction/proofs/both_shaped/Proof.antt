@@ -18,4 +18,4 @@ returns-2 c =
     sym (first-false (isShaped (s .args .a)) (isShaped (s .args .b)) (sym (c .before .is-shaped .ensures) ∙ c .if1 .left))
 
 pub both-shaped-spec : {M : Type 1} → statement M
-both-shaped-spec = tie.close (tie.spec (search needs) (search needs) returns returns-2)
+both-shaped-spec = tie.close (tie.spec (λ c. search needs) (λ c. search needs) returns returns-2)

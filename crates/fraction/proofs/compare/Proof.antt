@@ -16,4 +16,4 @@ returns-2 : tie.Need-returns-2
 returns-2 c = sym (not-fractions _ _ (sym (c .before .both .ensures) ∙ c .if1 .left))
 
 pub compare-spec : {M : Type 1} → statement M
-compare-spec = tie.close (tie.spec (search needs) (search needs) returns returns-2)
+compare-spec = tie.close (tie.spec (λ c. search needs) (λ c. search needs) returns returns-2)

@@ -21,4 +21,4 @@ returns-2 c =
     c .gcd .ensures ∙ gcd-rest (s .args .q .top) (s .args .q .bottom) (s .pre)
 
 pub divisor-of-spec : {M : Type 1} → statement M
-divisor-of-spec = tie.close (tie.spec returns rem-gcd (search needs) returns-2)
+divisor-of-spec = tie.close (tie.spec returns rem-gcd (λ c. search needs) returns-2)

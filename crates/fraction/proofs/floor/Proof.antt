@@ -13,4 +13,4 @@ returns-2 : tie.Need-returns-2
 returns-2 c = sym (not-fractions _ _ (sym (c .before .is-fraction .ensures) ∙ c .if1 .left))
 
 pub floor-spec : {M : Type 1} → statement M
-floor-spec = tie.close (tie.spec (search needs) (search needs) returns returns-2)
+floor-spec = tie.close (tie.spec (λ c. search needs) (λ c. search needs) returns returns-2)

@@ -20,4 +20,4 @@ returns-2 c =
     sym (unshaped (s .args .f) (told s) (sym (c .before .is-shaped .ensures) ∙ c .if1 .left))
 
 pub is-fraction-spec : {M : Type 1} → statement M
-is-fraction-spec = tie.close (tie.spec (search needs) (search needs) returns returns-2)
+is-fraction-spec = tie.close (tie.spec (λ c. search needs) (λ c. search needs) returns returns-2)

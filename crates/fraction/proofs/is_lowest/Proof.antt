@@ -14,4 +14,4 @@ returns-2 c =
     found-test (k .before .args .f) (k .parts .result .x) (k .parts .result .y) (c .gcd .result) (k .parts .ensures .0) (k .parts .ensures .1) (c .gcd .ensures)
 
 pub is-lowest-spec : {M : Type 1} → statement M
-is-lowest-spec = tie.close (tie.spec (search needs) (search needs) returns returns-2)
+is-lowest-spec = tie.close (tie.spec (λ c. search needs) (λ c. search needs) returns returns-2)

@@ -47,4 +47,5 @@ returns-2 c =
     (c .gcd2 .ensures ∙ gcd-rest _ (k .gcd .result) (shared-positive k) ∙ ap (λ (n : ℕ). gcd n (k .gcd .result)) (k .before .before .parts .ensures .1) ∙ both-parts k)
 
 pub is-lowest-by-spec : {M : Type 1} → statement M
-is-lowest-by-spec = tie.close (tie.spec (search needs) rem-gcd (search needs) returns rem-gcd-2 (search needs) returns-2)
+is-lowest-by-spec = tie.close (tie.spec (λ c. search needs) rem-gcd (λ c. search needs) returns rem-gcd-2 (λ c. search needs)
+    returns-2)

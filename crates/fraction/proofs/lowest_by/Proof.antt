@@ -54,5 +54,5 @@ returns-3 c =
     sym (not-fractions _ _ (first-false (inLowestTerms (s .args .a)) (inLowestTerms (s .args .b)) (sym (c .before .is-lowest-by .ensures) ∙ c .if1 .left)))
 
 pub lowest-by-spec : {M : Type 1} → statement M
-lowest-by-spec = tie.close (tie.spec is-lowest-by-requires is-lowest-by-requires-2 div-within div-within-2 (search needs)
+lowest-by-spec = tie.close (tie.spec is-lowest-by-requires is-lowest-by-requires-2 div-within div-within-2 (λ c. search needs)
     returns returns-2 returns-3)

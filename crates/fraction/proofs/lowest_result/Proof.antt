@@ -33,5 +33,5 @@ returns-3 : tie.Need-returns-3
 returns-3 c = c .lowest-by .ensures
 
 pub lowest-result-spec : {M : Type 1} → statement M
-lowest-result-spec = tie.close (tie.spec lowest-together-requires returns divisor-of-requires (search needs) returns-2
+lowest-result-spec = tie.close (tie.spec lowest-together-requires returns divisor-of-requires (λ c. search needs) returns-2
     lowest-by-requires returns-3)

@@ -56,5 +56,5 @@ returns-3 c =
     ∙ sym (on-fractions _ _ (true-first (inLowestTerms (s .args .a)) (inLowestTerms (s .args .b)) (a-lowest g (two .before .before .if1 .left)) ∙ b-lowest g (two .if2 .left)))
 
 pub lowest-together-spec : {M : Type 1} → statement M
-lowest-together-spec = tie.close (tie.spec (search needs) (search needs) (search needs) returns returns-2 div-within
-    div-within-2 (search needs) returns-3)
+lowest-together-spec = tie.close (tie.spec (λ c. search needs) (λ c. search needs) (λ c. search needs) returns returns-2
+    div-within div-within-2 (λ c. search needs) returns-3)

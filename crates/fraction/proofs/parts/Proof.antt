@@ -16,4 +16,4 @@ returns c =
     (c .before .before .magnitude .ensures ∙ ap natAbs (back-of (s .args .f .num) (told s .0)), c .magnitude2 .ensures ∙ ap natAbs (back-of (s .args .f .den) (told s .1)))
 
 pub parts-spec : {M : Type 1} → statement M
-parts-spec = tie.close (tie.spec (search needs) (search needs) (search needs) (search needs) returns)
+parts-spec = tie.close (tie.spec (λ c. search needs) (λ c. search needs) (λ c. search needs) (λ c. search needs) returns)

@@ -38,4 +38,4 @@ returns-2 c =
     sym (of-unshaped (s .args .a) (s .args .b) (told-a s) (told-b s) _ (sym (c .before .both-shaped .ensures) ∙ c .if1 .left))
 
 pub product-spec : {M : Type 1} → statement M
-product-spec = tie.close (tie.spec (search needs) (search needs) lowest-result-requires returns returns-2)
+product-spec = tie.close (tie.spec (λ c. search needs) (λ c. search needs) lowest-result-requires returns returns-2)

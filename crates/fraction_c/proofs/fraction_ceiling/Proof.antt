@@ -12,4 +12,4 @@ returns c =
     of-one (c .store-whole .ensures) ceilingOf (f .num) (f .den) (p .ceiling .ensures)
 
 pub fraction-ceiling-spec : {M : Type 1} → statement M
-fraction-ceiling-spec = tie.close (tie.spec (search needs) (search needs) returns)
+fraction-ceiling-spec = tie.close (tie.spec (λ c. search needs) (λ c. search needs) returns)

@@ -14,4 +14,4 @@ returns c =
     of-two (c .store-order .ensures) (λ a b. signOf (compareOf a b)) (f .a-num) (f .a-den) (f .b-num) (f .b-den) (ap signOf (p .compare .ensures))
 
 pub fraction-compare-spec : {M : Type 1} → statement M
-fraction-compare-spec = tie.close (tie.spec (search needs) (search needs) returns)
+fraction-compare-spec = tie.close (tie.spec (λ c. search needs) (λ c. search needs) returns)

@@ -12,4 +12,4 @@ returns c =
     of-one (c .store-whole .ensures) floorOf (f .num) (f .den) (p .floor .ensures)
 
 pub fraction-floor-spec : {M : Type 1} → statement M
-fraction-floor-spec = tie.close (tie.spec (search needs) (search needs) returns)
+fraction-floor-spec = tie.close (tie.spec (λ c. search needs) (λ c. search needs) returns)

@@ -12,4 +12,4 @@ returns c =
     of-two (c .store .ensures) productOf (f .a-num) (f .a-den) (f .b-num) (f .b-den) (p .product .ensures)
 
 pub fraction-product-spec : {M : Type 1} → statement M
-fraction-product-spec = tie.close (tie.spec (search needs) (search needs) returns)
+fraction-product-spec = tie.close (tie.spec (λ c. search needs) (λ c. search needs) returns)

@@ -12,4 +12,4 @@ returns c =
     of-two (c .store .ensures) sumOf (f .a-num) (f .a-den) (f .b-num) (f .b-den) (p .sum .ensures)
 
 pub fraction-sum-spec : {M : Type 1} → statement M
-fraction-sum-spec = tie.close (tie.spec (search needs) (search needs) returns)
+fraction-sum-spec = tie.close (tie.spec (λ c. search needs) (λ c. search needs) returns)

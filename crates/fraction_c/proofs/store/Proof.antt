@@ -19,4 +19,4 @@ returns-3 : tie.Need-returns-3
 returns-3 c = refused (ap arithmeticSays (c .enum-told2 .given .1))
 
 pub store-spec : {M : Type 1} → statement M
-store-spec = tie.close (tie.spec (search needs) (search needs) (search needs) returns returns-2 returns-3)
+store-spec = tie.close (tie.spec (λ c. search needs) (λ c. search needs) (λ c. search needs) returns returns-2 returns-3)

@@ -26,5 +26,5 @@ returns-4 : tie.Need-returns-4
 returns-4 c = refused (ap says (c .enum-told4 .given .1))
 
 pub store-order-spec : {M : Type 1} → statement M
-store-order-spec = tie.close (tie.spec (search needs) (search needs) (search needs) (search needs) returns returns-2 returns-3
-    returns-4)
+store-order-spec = tie.close (tie.spec (λ c. search needs) (λ c. search needs) (λ c. search needs) (λ c. search needs) returns
+    returns-2 returns-3 returns-4)

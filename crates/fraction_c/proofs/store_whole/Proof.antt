@@ -16,4 +16,4 @@ returns-2 : tie.Need-returns-2
 returns-2 c = refused (ap roundingSays (c .enum-told .given .1))
 
 pub store-whole-spec : {M : Type 1} → statement M
-store-whole-spec = tie.close (tie.spec (search needs) (search needs) returns returns-2)
+store-whole-spec = tie.close (tie.spec (λ c. search needs) (λ c. search needs) returns returns-2)

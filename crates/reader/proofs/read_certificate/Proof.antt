@@ -68,7 +68,8 @@ returns-4 c =
     (e .1 .1 ∙ ap (λ (n : ℕ). replicate n 0) (d .read-document .kept .1 .1 .1 .0 ∙ k .clear .kept .1 .1 .0)))
 
 pub read-certificate-spec : {M : Type 1} → statement M
-read-certificate-spec = tie.close (tie.spec (search needs) (search needs) (search needs) (search needs) returns (search needs)
-    (search needs) (search needs) (search needs) returns-2 (search needs) (search needs) (search needs) (search needs)
-    (search needs) (search needs) (search needs) (search needs) returns-3 (search needs) (search needs) (search needs)
-    (search needs) (search needs) returns-4)
+read-certificate-spec = tie.close (tie.spec (λ c. search needs) (λ c. search needs) (λ c. search needs) (λ c. search needs)
+    returns (λ c. search needs) (λ c. search needs) (λ c. search needs) (λ c. search needs) returns-2 (λ c. search needs)
+    (λ c. search needs) (λ c. search needs) (λ c. search needs) (λ c. search needs) (λ c. search needs) (λ c. search needs)
+    (λ c. search needs) returns-3 (λ c. search needs) (λ c. search needs) (λ c. search needs) (λ c. search needs)
+    (λ c. search needs) returns-4)

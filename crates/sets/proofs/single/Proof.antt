@@ -12,4 +12,4 @@ returns-2 : tie.Need-returns-2
 returns-2 c = bit-none _ (c .if1 .left)
 
 pub single-spec : {M : Type 1} → statement M
-single-spec = tie.close (tie.spec (search needs) returns returns-2)
+single-spec = tie.close (tie.spec (λ c. search needs) returns returns-2)

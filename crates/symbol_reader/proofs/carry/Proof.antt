@@ -14,4 +14,5 @@ returns-3 : tie.Need-returns-3
 returns-3 c = rw (c .before .before .before .before .a .given .1, c .before .s .given .1) refl
 
 pub carry-spec : {M : Type 1} → statement M
-carry-spec = tie.close (tie.spec (search needs) (search needs) returns (search needs) (search needs) returns-2 returns-3)
+carry-spec = tie.close (tie.spec (λ c. search needs) (λ c. search needs) returns (λ c. search needs) (λ c. search needs)
+    returns-2 returns-3)

@@ -16,4 +16,4 @@ returns-2 : tie.Need-returns-2
 returns-2 c = cell-beyond _ _ (omega arith)
 
 pub cell-at-spec : {M : Type 1} → statement M
-cell-at-spec = tie.close (tie.spec (search needs) (search needs) cast-result returns returns-2)
+cell-at-spec = tie.close (tie.spec (λ c. search needs) (λ c. search needs) cast-result returns returns-2)

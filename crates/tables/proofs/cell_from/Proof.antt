@@ -12,4 +12,5 @@ returns-3 : tie.Need-returns-3
 returns-3 c = cell-beyond _ _ (omega arith)
 
 pub cell-from-spec : {M : Type 1} → statement M
-cell-from-spec = tie.close (tie.spec (search needs) (search needs) (search needs) (search needs) returns-2 returns-3)
+cell-from-spec = tie.close (tie.spec (λ c. search needs) (λ c. search needs) (λ c. search needs) (λ c. search needs) returns-2
+    returns-3)

@@ -16,5 +16,5 @@ returns-3 : tie.Need-returns-3
 returns-3 c = part-cut _ _ _ _ refl (omega arith)
 
 pub cells-of-spec : {M : Type 1} → statement M
-cells-of-spec = tie.close (tie.spec (search needs) returns (search needs) returns-2 (search needs) (search needs) (search needs)
-    (search needs) (search needs) returns-3)
+cells-of-spec = tie.close (tie.spec (λ c. search needs) returns (λ c. search needs) returns-2 (λ c. search needs)
+    (λ c. search needs) (λ c. search needs) (λ c. search needs) (λ c. search needs) returns-3)

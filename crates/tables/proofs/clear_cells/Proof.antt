@@ -27,5 +27,5 @@ returns : tie.Need-returns Inv-loop μ-loop
 returns c = cleared-all 0 (c .before .loop .inv .0) (omega (arith, c .before .loop .inv .1, c .loop-test .left))
 
 pub clear-cells-spec : {M : Type 1} → statement M
-clear-cells-spec = tie.close (tie.spec Inv-loop μ-loop loop-holds (search needs) (search needs) (search needs) (search needs)
-    loop-again same-length returns)
+clear-cells-spec = tie.close (tie.spec Inv-loop μ-loop loop-holds (λ c. search needs) (λ c. search needs) (λ c. search needs)
+    (λ c. search needs) loop-again same-length returns)

@@ -19,4 +19,4 @@ returns c =
     entry-found rows r _ _ found (c .entry-at .ensures)
 
 pub solution-at-spec : {M : Type 1} → statement M
-solution-at-spec = tie.close (tie.spec (search needs) (search needs) returns)
+solution-at-spec = tie.close (tie.spec (λ c. search needs) (λ c. search needs) returns)

@@ -16,4 +16,5 @@ returns-3 : tie.Need-returns-3
 returns-3 c = sym (with-cell-beyond _ _ _ (omega arith))
 
 pub store-cell-spec : {M : Type 1} → statement M
-store-cell-spec = tie.close (tie.spec returns (search needs) (search needs) (search needs) (search needs) returns-2 returns-3)
+store-cell-spec = tie.close (tie.spec returns (λ c. search needs) (λ c. search needs) (λ c. search needs) (λ c. search needs)
+    returns-2 returns-3)

@@ -20,5 +20,5 @@ returns-2 : tie.Need-returns-2
 returns-2 c = sym (with-entry-beyond _ _ _ (omega arith))
 
 pub store-entry-spec : {M : Type 1} → statement M
-store-entry-spec = tie.close (tie.spec (search needs) (search needs) (search needs) (search needs) (search needs) (search needs)
-    (search needs) (search needs) (search needs) returns returns-2)
+store-entry-spec = tie.close (tie.spec (λ c. search needs) (λ c. search needs) (λ c. search needs) (λ c. search needs)
+    (λ c. search needs) (λ c. search needs) (λ c. search needs) (λ c. search needs) (λ c. search needs) returns returns-2)

@@ -10,4 +10,5 @@ returns-2 : tie.Need-returns-2
 returns-2 c = sym (set-out _ _ _ (omega arith))
 
 pub store-number-spec : {M : Type 1} → statement M
-store-number-spec = tie.close (tie.spec (search needs) (search needs) (search needs) (λ c. search needs) returns-2)
+store-number-spec = tie.close (tie.spec (λ c. search needs) (λ c. search needs) (λ c. search needs) (λ c. search needs)
+    returns-2)

@@ -21,5 +21,5 @@ returns-2 : tie.Need-returns-2
 returns-2 c = sym (with-value-beyond _ _ _ (omega arith))
 
 pub store-value-spec : {M : Type 1} → statement M
-store-value-spec = tie.close (tie.spec (search needs) (search needs) (search needs) (search needs) (search needs) (search needs)
-    returns returns-2)
+store-value-spec = tie.close (tie.spec (λ c. search needs) (λ c. search needs) (λ c. search needs) (λ c. search needs)
+    (λ c. search needs) (λ c. search needs) returns returns-2)

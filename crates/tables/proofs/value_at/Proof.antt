@@ -14,5 +14,5 @@ returns-2 : tie.Need-returns-2
 returns-2 c = value-beyond _ _ (omega arith)
 
 pub value-at-spec : {M : Type 1} → statement M
-value-at-spec = tie.close (tie.spec (search needs) (search needs) (search needs) (search needs) (search needs) returns
-    returns-2)
+value-at-spec = tie.close (tie.spec (λ c. search needs) (λ c. search needs) (λ c. search needs) (λ c. search needs)
+    (λ c. search needs) returns returns-2)

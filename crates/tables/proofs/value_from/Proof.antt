@@ -12,4 +12,5 @@ returns-3 : tie.Need-returns-3
 returns-3 c = value-beyond _ _ (omega arith)
 
 pub value-from-spec : {M : Type 1} → statement M
-value-from-spec = tie.close (tie.spec (search needs) (search needs) (search needs) (λ c. search needs) returns-2 returns-3)
+value-from-spec = tie.close (tie.spec (λ c. search needs) (λ c. search needs) (λ c. search needs) (λ c. search needs) returns-2
+    returns-3)

@@ -23,5 +23,6 @@ returns-4 c =
     part-cut (a .values .now) (2 * p .number) (2 * p .count) (2 * (p .number + p .count)) (omega arith) (omega arith)
 
 pub values-of-spec : {M : Type 1} → statement M
-values-of-spec = tie.close (tie.spec (search needs) returns (search needs) returns-2 (search needs) (search needs)
-    (search needs) (search needs) returns-3 (search needs) (search needs) (search needs) (search needs) returns-4)
+values-of-spec = tie.close (tie.spec (λ c. search needs) returns (λ c. search needs) returns-2 (λ c. search needs)
+    (λ c. search needs) (λ c. search needs) (λ c. search needs) returns-3 (λ c. search needs) (λ c. search needs)
+    (λ c. search needs) (λ c. search needs) returns-4)

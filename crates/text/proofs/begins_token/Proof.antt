@@ -30,5 +30,5 @@ returns-4 c =
     ∙ by-the-one-before (a .text .now) (a .place) (i .if1 .left) (sym (z .before .before .is-separator .ensures) ∙ z .before .if2 .left) (z .if3 .left)
 
 pub begins-token-spec : {M : Type 1} → statement M
-begins-token-spec = tie.close (tie.spec returns (search needs) (search needs) returns-2 returns-3 (search needs) (search needs)
-    (search needs) returns-4)
+begins-token-spec = tie.close (tie.spec returns (λ c. search needs) (λ c. search needs) returns-2 returns-3 (λ c. search needs)
+    (λ c. search needs) (λ c. search needs) returns-4)

@@ -51,5 +51,5 @@ returns-3 c =
     omega (arith, l .loop .inv, comment-past (l .before .before .args .text .now) (l .loop .at) (c .loop-test .left))
 
 pub comments-end-spec : {M : Type 1} → statement M
-comments-end-spec = tie.close (tie.spec Inv-loop μ-loop loop-holds (search needs) returns (search needs) returns-2 add-at
-    loop-less loop-again returns-3)
+comments-end-spec = tie.close (tie.spec Inv-loop μ-loop loop-holds (λ c. search needs) returns (λ c. search needs) returns-2
+    add-at loop-less loop-again returns-3)

@@ -18,5 +18,5 @@ returns-3 : tie.Need-returns-3
 returns-3 c = of-kind kind.Line _ (c .enum-told3 .given .1) refl
 
 pub is-of-spec : {M : Type 1} → statement M
-is-of-spec = tie.close (tie.spec (search needs) (search needs) (search needs) (search needs) (search needs) returns returns-2
-    returns-3)
+is-of-spec = tie.close (tie.spec (λ c. search needs) (λ c. search needs) (λ c. search needs) (λ c. search needs)
+    (λ c. search needs) returns returns-2 returns-3)

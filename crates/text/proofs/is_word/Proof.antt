@@ -11,4 +11,4 @@ returns c =
     c .same-bytes .ensures ∙ ap (λ (w : Bytes). same w (c .before .before .before .before .args .word .now)) (c .before .part .ensures)
 
 pub is-word-spec : {M : Type 1} → statement M
-is-word-spec = tie.close (tie.spec (search needs) (search needs) returns)
+is-word-spec = tie.close (tie.spec (λ c. search needs) (λ c. search needs) returns)

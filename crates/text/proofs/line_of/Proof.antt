@@ -38,5 +38,5 @@ returns c =
     l .loop .inv .0 ∙ line-done (s .text .now) (l .loop .i) (s .place) e
 
 pub line-of-spec : {M : Type 1} → statement M
-line-of-spec = tie.close (tie.spec Inv-loop μ-loop (search needs) loop-holds (search needs) (search needs) (search needs)
-    (search needs) loop-again returns)
+line-of-spec = tie.close (tie.spec Inv-loop μ-loop (λ c. search needs) loop-holds (λ c. search needs) (λ c. search needs)
+    (λ c. search needs) (λ c. search needs) loop-again returns)

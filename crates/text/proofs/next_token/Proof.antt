@@ -16,4 +16,4 @@ returns-2 c =
     scans-end (a .text .now) (a .at) (c .before .run-end .ensures) (c .if1 .left)
 
 pub next-token-spec : {M : Type 1} → statement M
-next-token-spec = tie.close (tie.spec (search needs) (search needs) returns returns-2)
+next-token-spec = tie.close (tie.spec (λ c. search needs) (λ c. search needs) returns returns-2)

@@ -16,4 +16,5 @@ returns-2 c =
     part-none (a .text .now) (a .from) (a .to) _ (c .before .before .least .ensures) (c .before .if1 .left)
 
 pub part-spec : {M : Type 1} → statement M
-part-spec = tie.close (tie.spec (search needs) (search needs) (search needs) (search needs) (search needs) returns returns-2)
+part-spec = tie.close (tie.spec (λ c. search needs) (λ c. search needs) (λ c. search needs) (λ c. search needs)
+    (λ c. search needs) returns returns-2)

@@ -36,5 +36,5 @@ returns-2 c =
     omega (arith, leading-past (isOf (a .kind)) (a .text .now) (c .before .loop .i) (c .loop-test .left))
 
 pub run-end-spec : {M : Type 1} → statement M
-run-end-spec = tie.close (tie.spec Inv-loop μ-loop (search needs) (search needs) (search needs) (search needs) (search needs)
-    loop-again returns returns-2)
+run-end-spec = tie.close (tie.spec Inv-loop μ-loop (λ c. search needs) (λ c. search needs) (λ c. search needs)
+    (λ c. search needs) (λ c. search needs) loop-again returns returns-2)

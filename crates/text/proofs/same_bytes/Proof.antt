@@ -41,5 +41,5 @@ returns-3 c =
     sym (same-all (s .a .now) (s .b .now) (l .loop .i) (omega arith) (omega arith)) ∙ l .loop .inv .2
 
 pub same-bytes-spec : {M : Type 1} → statement M
-same-bytes-spec = tie.close (tie.spec Inv-loop μ-loop returns loop-holds (search needs) (search needs) returns-2 (search needs)
-    (search needs) loop-again returns-3)
+same-bytes-spec = tie.close (tie.spec Inv-loop μ-loop returns loop-holds (λ c. search needs) (λ c. search needs) returns-2
+    (λ c. search needs) (λ c. search needs) loop-again returns-3)

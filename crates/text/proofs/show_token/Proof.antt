@@ -42,5 +42,5 @@ returns-2 c =
     part-at n n from to (omega arith) (omega arith) refl (omega arith) refl
 
 pub show-token-spec : {M : Type 1} → statement M
-show-token-spec = tie.close (tie.spec (search needs) (search needs) (search needs) (search needs) part-result-end (search needs)
-    (search needs) (search needs) returns returns-2)
+show-token-spec = tie.close (tie.spec (λ c. search needs) (λ c. search needs) (λ c. search needs) (λ c. search needs)
+    part-result-end (λ c. search needs) (λ c. search needs) (λ c. search needs) returns returns-2)

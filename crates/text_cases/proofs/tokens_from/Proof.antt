@@ -32,5 +32,5 @@ loop-less : tie.Need-loop-less Inv-loop μ-loop
 loop-less c = omega (arith, token-found c .ahead, token-found c .not-empty, token-found c .inside)
 
 pub tokens-from-spec : {M : Type 1} → statement M
-tokens-from-spec = tie.close (tie.spec Inv-loop μ-loop (search needs) (search needs) (search needs) (search needs) add-next
-    loop-less (search needs) (search needs) (search needs) (search needs))
+tokens-from-spec = tie.close (tie.spec Inv-loop μ-loop (λ c. search needs) (λ c. search needs) (λ c. search needs)
+    (λ c. search needs) add-next loop-less (λ c. search needs) (λ c. search needs) (λ c. search needs) (λ c. search needs))

@@ -128,4 +128,4 @@ returns-4 c =
 
 pub decimal-ratio-spec : {M : Type 1} → statement M
 decimal-ratio-spec = tie.close (tie.spec after-point-requires counted-requires read-run-requires add-if1 returns
-    extended-ratio-requires returns-2 returns-3 sub-power-of-ten sub-power-of-ten-2 (search needs) returns-4)
+    extended-ratio-requires returns-2 returns-3 sub-power-of-ten sub-power-of-ten-2 (λ c. search needs) returns-4)

@@ -55,5 +55,5 @@ returns-2 c =
     (tt, λ s w after g p. sym (misspelled-exponent s w after _ (letter-missing (a .token .now) (a .end) (at-start .pre .2) (sym (c .before .is-letter .ensures) ∙ c .if1 .left))))
 
 pub extended-ratio-spec : {M : Type 1} → statement M
-extended-ratio-spec = tie.close (tie.spec shared-slice-read-is-letter (search needs) read-on-requires sub-scaled-ratio
+extended-ratio-spec = tie.close (tie.spec shared-slice-read-is-letter (λ c. search needs) read-on-requires sub-scaled-ratio
     add-scaled-ratio scaled-ratio-requires returns returns-2)

@@ -66,5 +66,5 @@ returns-5 c =
     (slash-positive (after p) (digits p) (stands p) (at-if1 .if1 .left) (numeral p) (c .if3 .left), λ s w h. sym (slash-narrow s w _ h (after p) (numeral p) (digits p) (stands p) (at-if1 .if1 .left) (at-if2 .if2 .left) (c .if3 .left)))
 
 pub quotient-ratio-spec : {M : Type 1} → statement M
-quotient-ratio-spec = tie.close (tie.spec (search needs) ended-requires (search needs) (search needs) returns returns-2
-    returns-3 returns-4 returns-5)
+quotient-ratio-spec = tie.close (tie.spec (λ c. search needs) ended-requires (λ c. search needs) (λ c. search needs) returns
+    returns-2 returns-3 returns-4 returns-5)

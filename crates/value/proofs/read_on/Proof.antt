@@ -35,4 +35,4 @@ returns-2 c =
     }
 
 pub read-on-spec : {M : Type 1} → statement M
-read-on-spec = tie.close (tie.spec (search needs) returns read-run-requires returns-2)
+read-on-spec = tie.close (tie.spec (λ c. search needs) returns read-run-requires returns-2)

@@ -79,5 +79,5 @@ returns-4 c =
     )
 
 pub read-ratio-spec : {M : Type 1} → statement M
-read-ratio-spec = tie.close (tie.spec (search needs) returns counted-requires (search needs) returns-2 (search needs)
-    counted-requires-2 (λ c. omega arith) (search needs) returns-3 decimal-ratio-requires returns-4)
+read-ratio-spec = tie.close (tie.spec (λ c. search needs) returns counted-requires (λ c. search needs) returns-2
+    (λ c. search needs) counted-requires-2 (λ c. omega arith) (λ c. search needs) returns-3 decimal-ratio-requires returns-4)

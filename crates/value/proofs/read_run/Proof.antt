@@ -54,5 +54,5 @@ returns-2 : tie.Need-returns-2 Inv-loop μ-loop
 returns-2 c = reading-ends _ _ _ _ _ (c .before .loop .inv) (stops-past _ _ (c .loop-test .left))
 
 pub read-run-spec : {M : Type 1} → statement M
-read-run-spec = tie.close (tie.spec Inv-loop μ-loop loop-holds (λ c. omega arith) (search needs) sub-with cast-with
+read-run-spec = tie.close (tie.spec Inv-loop μ-loop loop-holds (λ c. omega arith) (λ c. search needs) sub-with cast-with
     with-requires (λ c. omega arith) (λ c. omega arith) loop-again returns returns-2)

@@ -22,4 +22,4 @@ returns c =
     (subst (λ (d : Digits). RunRead (drop first (a .token .now)) first d (c .read-run .result)) (c .before .none .ensures) (c .read-run .ensures))
 
 pub read-significant-spec : {M : Type 1} → statement M
-read-significant-spec = tie.close (tie.spec (search needs) (search needs) read-run-requires returns)
+read-significant-spec = tie.close (tie.spec (λ c. search needs) (λ c. search needs) read-run-requires returns)

@@ -25,5 +25,5 @@ returns-3 c =
     ap (ratioSays _) (sym (c .enum-told2 .given .1)) ∙ at-read .read-ratio .ensures .1 _
 
 pub read-unsigned-spec : {M : Type 1} → statement M
-read-unsigned-spec = tie.close (tie.spec (search needs) (search needs) reduce-requires (search needs) (search needs) returns
-    returns-2 returns-3)
+read-unsigned-spec = tie.close (tie.spec (λ c. search needs) (λ c. search needs) reduce-requires (λ c. search needs)
+    (λ c. search needs) returns returns-2 returns-3)

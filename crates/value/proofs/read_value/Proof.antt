@@ -25,4 +25,4 @@ returns-3 : tie.Need-returns-3
 returns-3 c = as-read _ _ (read-plain _ (c .before .before .before .if1 .left) (c .before .if2 .left) ∙ sym (c .read-unsigned2 .ensures))
 
 pub read-value-spec : {M : Type 1} → statement M
-read-value-spec = tie.close (tie.spec returns (search needs) (search needs) (search needs) returns-2 returns-3)
+read-value-spec = tie.close (tie.spec returns (λ c. search needs) (λ c. search needs) (λ c. search needs) returns-2 returns-3)

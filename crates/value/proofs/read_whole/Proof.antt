@@ -16,4 +16,4 @@ returns : tie.Need-returns
 returns c = whole-read _ _ _ (c .before .before .read-significant .ensures) _ (c .counted .ensures)
 
 pub read-whole-spec : {M : Type 1} → statement M
-read-whole-spec = tie.close (tie.spec (search needs) counted-requires returns)
+read-whole-spec = tie.close (tie.spec (λ c. search needs) counted-requires returns)

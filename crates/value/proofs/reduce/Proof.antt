@@ -42,4 +42,4 @@ returns-2 c =
     sym (narrowed-gives _ _ (sym (reduced-is r) ∙ ap arithmeticSays (c .before .a .given .1)))
 
 pub reduce-spec : {M : Type 1} → statement M
-reduce-spec = tie.close (tie.spec (search needs) (search needs) returns returns-2)
+reduce-spec = tie.close (tie.spec (λ c. search needs) (λ c. search needs) returns returns-2)

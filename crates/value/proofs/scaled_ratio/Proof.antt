@@ -66,5 +66,5 @@ returns-4 c =
     )
 
 pub scaled-ratio-spec : {M : Type 1} → statement M
-scaled-ratio-spec = tie.close (tie.spec (search needs) (search needs) (search needs) returns (search needs) returns-2 returns-3
-    power-of-requires times-power-requires returns-4)
+scaled-ratio-spec = tie.close (tie.spec (λ c. search needs) (λ c. search needs) (λ c. search needs) returns (λ c. search needs)
+    returns-2 returns-3 power-of-requires times-power-requires returns-4)

@@ -42,5 +42,5 @@ returns-3 c =
     (tt, λ great z h s. sym (times-outside s (a .digits .number) z (subst (PowerIs z) (c .enum-told .given .1) h)))
 
 pub times-power-spec : {M : Type 1} → statement M
-times-power-spec = tie.close (tie.spec (search needs) appended-requires (search needs) (search needs) (search needs)
-    (search needs) returns returns-2 returns-3)
+times-power-spec = tie.close (tie.spec (λ c. search needs) appended-requires (λ c. search needs) (λ c. search needs)
+    (λ c. search needs) (λ c. search needs) returns returns-2 returns-3)

@@ -12,5 +12,5 @@ abbrev μ-loop : tie.MeasureT-loop
 μ-loop k₀ k = 21 - k
 
 pub first-powers-spec : {M : Type 1} → statement M
-first-powers-spec = tie.close (tie.spec Inv-loop μ-loop (search needs) (search needs) (search needs) (search needs)
-    (search needs) (search needs))
+first-powers-spec = tie.close (tie.spec Inv-loop μ-loop (λ c. search needs) (λ c. search needs) (λ c. search needs)
+    (λ c. search needs) (λ c. search needs) (λ c. search needs))

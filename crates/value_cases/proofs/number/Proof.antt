@@ -40,5 +40,5 @@ cast-print-decimal-2 c =
     rw (back f, back64 f) (pos-nonNeg x (sym (below-zero x) ∙ (rw (back f, back64 f) at (c .if1 .left))), natAbs-fits x (small x f))
 
 pub number-spec : {M : Type 1} → statement M
-number-spec = tie.close (tie.spec cast-w (search needs) (search needs) sub-print-decimal cast-print-decimal (search needs)
-    cast-print-decimal-2 (search needs) (search needs) (search needs))
+number-spec = tie.close (tie.spec cast-w (λ c. search needs) (λ c. search needs) sub-print-decimal cast-print-decimal
+    (λ c. search needs) cast-print-decimal-2 (λ c. search needs) (λ c. search needs) (λ c. search needs))

@@ -14,5 +14,5 @@ abbrev μ-loop : tie.MeasureT-loop
 μ-loop text from mark at₀ at = length text - at
 
 pub next-spec : {M : Type 1} → statement M
-next-spec = tie.close (tie.spec Inv-loop μ-loop (search needs) (search needs) (search needs) (search needs) (search needs)
-    (search needs) (search needs) (search needs))
+next-spec = tie.close (tie.spec Inv-loop μ-loop (λ c. search needs) (λ c. search needs) (λ c. search needs) (λ c. search needs)
+    (λ c. search needs) (λ c. search needs) (λ c. search needs) (λ c. search needs))

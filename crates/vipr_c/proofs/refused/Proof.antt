@@ -8,4 +8,4 @@ returns : tie.Need-returns
 returns c = same-line _ (c .number .ensures)
 
 pub refused-spec : {M : Type 1} → statement M
-refused-spec = tie.close (tie.spec (search needs) (search needs) returns)
+refused-spec = tie.close (tie.spec (λ c. search needs) (λ c. search needs) returns)

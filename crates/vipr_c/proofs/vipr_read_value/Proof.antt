@@ -21,5 +21,5 @@ returns-3 : tie.Need-returns-3
 returns-3 c = value-refused _ (c .before .before .read-value .ensures) (ap valueSays (c .enum-told2 .given .1))
 
 pub vipr-read-value-spec : {M : Type 1} → statement M
-vipr-read-value-spec = tie.close (tie.spec (search needs) (search needs) (search needs) (search needs) returns returns-2
-    returns-3)
+vipr-read-value-spec = tie.close (tie.spec (λ c. search needs) (λ c. search needs) (λ c. search needs) (λ c. search needs)
+    returns returns-2 returns-3)

@@ -8,4 +8,4 @@ returns : tie.Need-returns
 returns c = token-measured _ _ (c .show-token .ensures .bytes)
 
 pub vipr-show-token-spec : {M : Type 1} → statement M
-vipr-show-token-spec = tie.close (tie.spec (search needs) returns)
+vipr-show-token-spec = tie.close (tie.spec (λ c. search needs) returns)

@@ -15,5 +15,6 @@ returns-2 : tie.Need-returns-2
 returns-2 c = verify-returned (c .before .before .before .before .before .before .before .before .before .before .verify .ensures) _ (c .before .before .before .reason .given .1) (c .refused .ensures)
 
 pub vipr-verify-spec : {M : Type 1} → statement M
-vipr-verify-spec = tie.close (tie.spec (search needs) (search needs) (search needs) refused-requires (search needs)
-    (search needs) (search needs) returns (search needs) (search needs) (search needs) returns-2)
+vipr-verify-spec = tie.close (tie.spec (λ c. search needs) (λ c. search needs) (λ c. search needs) refused-requires
+    (λ c. search needs) (λ c. search needs) (λ c. search needs) returns (λ c. search needs) (λ c. search needs)
+    (λ c. search needs) returns-2)

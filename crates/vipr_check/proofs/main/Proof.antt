@@ -22,6 +22,6 @@ slice-aggregate-answer : tie.Need-slice-aggregate-answer
 slice-aggregate-answer c = came (c .before) .1
 
 pub main-spec : {M : Type 1} → statement M
-main-spec = tie.close (tie.spec (search needs) (search needs) (search needs) (search needs) (search needs) (search needs)
-    (search needs) array-share-prefix-text slice-aggregate-answer (search needs) (search needs) (search needs) (search needs)
-    (search needs) (search needs))
+main-spec = tie.close (tie.spec (λ c. search needs) (λ c. search needs) (λ c. search needs) (λ c. search needs)
+    (λ c. search needs) (λ c. search needs) (λ c. search needs) array-share-prefix-text slice-aggregate-answer
+    (λ c. search needs) (λ c. search needs) (λ c. search needs) (λ c. search needs) (λ c. search needs) (λ c. search needs))

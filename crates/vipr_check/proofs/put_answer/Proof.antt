@@ -33,5 +33,5 @@ returns-2 c =
     )
 
 pub put-answer-spec : {M : Type 1} → statement M
-put-answer-spec = tie.close (tie.spec (search needs) (search needs) (search needs) (search needs) (search needs) (search needs)
-    (search needs) returns (search needs) returns-2)
+put-answer-spec = tie.close (tie.spec (λ c. search needs) (λ c. search needs) (λ c. search needs) (λ c. search needs)
+    (λ c. search needs) (λ c. search needs) (λ c. search needs) returns (λ c. search needs) returns-2)

@@ -26,4 +26,5 @@ returns c =
     )
 
 pub put-decimal-spec : {M : Type 1} → statement M
-put-decimal-spec = tie.close (tie.spec (search needs) (search needs) (search needs) put-requires (search needs) returns)
+put-decimal-spec = tie.close (tie.spec (λ c. search needs) (λ c. search needs) (λ c. search needs) put-requires
+    (λ c. search needs) returns)

@@ -37,6 +37,6 @@ loop-again c =
     (omega (arith, more-fits c, same), same ∙ l .inv .1)
 
 pub read-input-spec : {M : Type 1} → statement M
-read-input-spec = tie.close (tie.spec Inv-loop μ-loop (search needs) (search needs) (search needs) (search needs) (search needs)
-    (search needs) (search needs) (search needs) (search needs) (search needs) (search needs) add-n (search needs) loop-again
-    (search needs) (search needs))
+read-input-spec = tie.close (tie.spec Inv-loop μ-loop (λ c. search needs) (λ c. search needs) (λ c. search needs)
+    (λ c. search needs) (λ c. search needs) (λ c. search needs) (λ c. search needs) (λ c. search needs) (λ c. search needs)
+    (λ c. search needs) (λ c. search needs) add-n (λ c. search needs) loop-again (λ c. search needs) (λ c. search needs))

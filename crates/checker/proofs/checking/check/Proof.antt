@@ -26,5 +26,5 @@ returns-3 c = λ tree h.
     (c .check-reaching2 .ensures tree h (subst (λ (x : End). EndFormed x) is (e .ensures .1 tree _ h)) (sym is ∙ e .ensures .0 tree _ h))
 
 pub check-spec : {M : Type 1} → statement M
-check-spec = tie.close (tie.spec (search needs) (search needs) (search needs) returns (search needs) (search needs)
-    (search needs) (search needs) (search needs) returns-2 returns-3)
+check-spec = tie.close (tie.spec (λ c. search needs) (λ c. search needs) (λ c. search needs) returns (λ c. search needs)
+    (λ c. search needs) (λ c. search needs) (λ c. search needs) (λ c. search needs) returns-2 returns-3)

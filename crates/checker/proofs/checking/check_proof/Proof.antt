@@ -20,4 +20,5 @@ returns-2 c = λ tree os h e f.
     (c .check-claim .ensures tree h ∙ ap (λ (x : Header). require (isProved tree) 17 (lastPlace (x .derivation) (lastRow tree))) (h .header-is))
 
 pub check-proof-spec : {M : Type 1} → statement M
-check-proof-spec = tie.close (tie.spec (search needs) (search needs) (search needs) returns (search needs) returns-2)
+check-proof-spec = tie.close (tie.spec (λ c. search needs) (λ c. search needs) (λ c. search needs) returns (λ c. search needs)
+    returns-2)

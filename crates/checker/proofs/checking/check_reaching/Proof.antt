@@ -20,5 +20,5 @@ returns-3 c = λ tree h b e.
     is-reached tree _ (c .before .before .before .before .before .before .before .before .before .args .asked) e _ w (c .before .if1 .left) (c .check-proof .ensures tree (w .values) h (w .best .best-is) (w .best .fraction))
 
 pub check-reaching-spec : {M : Type 1} → statement M
-check-reaching-spec = tie.close (tie.spec (search needs) (search needs) (search needs) returns (search needs) returns-2
-    returns-3)
+check-reaching-spec = tie.close (tie.spec (λ c. search needs) (λ c. search needs) (λ c. search needs) returns
+    (λ c. search needs) returns-2 returns-3)

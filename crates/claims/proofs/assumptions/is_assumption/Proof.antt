@@ -15,4 +15,4 @@ returns-3 : tie.Need-returns-3
 returns-3 c = let w = c .before in λ tree values e lt. word-other e _ (w .word-of .result) (w .word-of .ensures) (w .before .if1 .left) lt (c .match .keys2)
 
 pub is-assumption-spec : {M : Type 1} → statement M
-is-assumption-spec = tie.close (tie.spec returns (search needs) (search needs) returns-2 returns-3)
+is-assumption-spec = tie.close (tie.spec returns (λ c. search needs) (λ c. search needs) returns-2 returns-3)

@@ -9,4 +9,4 @@ returns : tie.Need-returns
 returns c = λ tree values e lt. free-by _ (c .before .before .before .sets-of .ensures tree values e _ lt) (c .before .set-at .ensures) _ (c .is-empty .ensures)
 
 pub is-free-spec : {M : Type 1} → statement M
-is-free-spec = tie.close (tie.spec (search needs) (search needs) (search needs) returns)
+is-free-spec = tie.close (tie.spec (λ c. search needs) (λ c. search needs) (λ c. search needs) returns)

@@ -13,4 +13,4 @@ returns-2 : tie.Need-returns-2
 returns-2 c = sym (mask-beyond _ _ (c .if1 .left))
 
 pub set-at-spec : {M : Type 1} → statement M
-set-at-spec = tie.close (tie.spec (search needs) (search needs) returns returns-2)
+set-at-spec = tie.close (tie.spec (λ c. search needs) (λ c. search needs) returns returns-2)

@@ -29,6 +29,6 @@ returns-3 c =
     c .union-of .ensures j ∙ set-named k (w .word-of .result) (w .word-of .ensures) tree _ _ j (w .before .named-by .ensures) (c .before .match .keys3)
 
 pub set-of-spec : {M : Type 1} → statement M
-set-of-spec = tie.close (tie.spec (search needs) (search needs) (search needs) (search needs) (search needs) (search needs)
-    (search needs) (search needs) (search needs) (search needs) (search needs) (search needs) (search needs) returns returns-2
-    returns-3)
+set-of-spec = tie.close (tie.spec (λ c. search needs) (λ c. search needs) (λ c. search needs) (λ c. search needs)
+    (λ c. search needs) (λ c. search needs) (λ c. search needs) (λ c. search needs) (λ c. search needs) (λ c. search needs)
+    (λ c. search needs) (λ c. search needs) (λ c. search needs) returns returns-2 returns-3)

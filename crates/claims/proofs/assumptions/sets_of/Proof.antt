@@ -61,5 +61,5 @@ returns c =
     sets-end e (c .before .loop .inv .2 tree values e) (omega (arith, c .loop-test .left, c .before .before .in-array .ensures)) r lt
 
 pub sets-of-spec : {M : Type 1} → statement M
-sets-of-spec = tie.close (tie.spec Inv-loop μ-loop (search needs) loop-holds (search needs) mul-all array-write-all
-    (search needs) add-assumed add-r loop-less loop-again returns)
+sets-of-spec = tie.close (tie.spec Inv-loop μ-loop (λ c. search needs) loop-holds (λ c. search needs) mul-all array-write-all
+    (λ c. search needs) add-assumed add-r loop-less loop-again returns)

@@ -28,5 +28,5 @@ returns : tie.Need-returns Inv-loop μ-loop
 returns c = uniting-end (c .before .loop .inv) (c .loop-test .left)
 
 pub union-of-spec : {M : Type 1} → statement M
-union-of-spec = tie.close (tie.spec Inv-loop μ-loop loop-holds (search needs) (search needs) cast-r (search needs)
-    (search needs) (search needs) (search needs) loop-again returns)
+union-of-spec = tie.close (tie.spec Inv-loop μ-loop loop-holds (λ c. search needs) (λ c. search needs) cast-r
+    (λ c. search needs) (λ c. search needs) (λ c. search needs) (λ c. search needs) loop-again returns)

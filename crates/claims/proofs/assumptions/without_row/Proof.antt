@@ -23,4 +23,5 @@ returns-2 c =
     ap (λ (m : ℕ). bit m j) (i .before .set-at .ensures) ∙ without-by tree _ _ _ j (i .is-assumption .ensures tree values e lt) (c .if1 .left)
 
 pub without-row-spec : {M : Type 1} → statement M
-without-row-spec = tie.close (tie.spec (search needs) (search needs) (search needs) (search needs) returns returns-2)
+without-row-spec = tie.close (tie.spec (λ c. search needs) (λ c. search needs) (λ c. search needs) (λ c. search needs) returns
+    returns-2)

@@ -15,5 +15,5 @@ returns c =
     _ (c .before .sense-asked .result) _ bound (c .before .sense-asked .ensures) (m .compare .ensures) (c .dominates .ensures)
 
 pub dominates-objective-spec : {M : Type 1} → statement M
-dominates-objective-spec = tie.close (tie.spec (search needs) (search needs) (search needs) (search needs) (search needs)
-    (search needs) (search needs) (search needs) returns)
+dominates-objective-spec = tie.close (tie.spec (λ c. search needs) (λ c. search needs) (λ c. search needs) (λ c. search needs)
+    (λ c. search needs) (λ c. search needs) (λ c. search needs) (λ c. search needs) returns)

@@ -16,4 +16,4 @@ returns-2 c =
     λ tree e. c .last-answers .ensures tree e (a .ensures .1 tree _ e) ∙ last-asked tree (a .result) (c .before .match .keys2) (a .ensures .0 tree _ e)
 
 pub is-proved-spec : {M : Type 1} → statement M
-is-proved-spec = tie.close (tie.spec (search needs) (search needs) returns (search needs) returns-2)
+is-proved-spec = tie.close (tie.spec (λ c. search needs) (λ c. search needs) returns (λ c. search needs) returns-2)

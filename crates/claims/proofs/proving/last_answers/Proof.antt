@@ -32,4 +32,5 @@ returns-3 c =
     ∙ last-passes e (meets tree (askedSays tree (m .before .before .before .before .before .before .before .args .asked))) lt
 
 pub last-answers-spec : {M : Type 1} → statement M
-last-answers-spec = tie.close (tie.spec returns (search needs) (search needs) (search needs) (search needs) returns-2 returns-3)
+last-answers-spec = tie.close (tie.spec returns (λ c. search needs) (λ c. search needs) (λ c. search needs) (λ c. search needs)
+    returns-2 returns-3)

@@ -21,5 +21,5 @@ returns-3 c =
     c .dominates-objective .ensures tree rows x e is formed (subst AskedFormed told ok) ∙ ap (λ (a : Asked). meets tree (askedSays tree a) (constraintOf tree x)) (sym told)
 
 pub meets-spec : {M : Type 1} → statement M
-meets-spec = tie.close (tie.spec (search needs) (search needs) (search needs) (search needs) (search needs) returns returns-2
-    returns-3)
+meets-spec = tie.close (tie.spec (λ c. search needs) (λ c. search needs) (λ c. search needs) (λ c. search needs)
+    (λ c. search needs) returns returns-2 returns-3)

@@ -58,6 +58,6 @@ returns-2 c =
     )
 
 pub combine-spec : {M : Type 1} → statement M
-combine-spec = tie.close (tie.spec Inv-loop μ-loop (search needs) (search needs) loop-holds (search needs) (search needs) cast-r
-    (search needs) (search needs) (search needs) (search needs) (search needs) returns (search needs) (search needs) loop-again
-    returns-2)
+combine-spec = tie.close (tie.spec Inv-loop μ-loop (λ c. search needs) (λ c. search needs) loop-holds (λ c. search needs)
+    (λ c. search needs) cast-r (λ c. search needs) (λ c. search needs) (λ c. search needs) (λ c. search needs)
+    (λ c. search needs) returns (λ c. search needs) (λ c. search needs) loop-again returns-2)

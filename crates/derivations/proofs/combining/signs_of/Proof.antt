@@ -47,5 +47,6 @@ returns c =
     signing-end (listed-none aMultiplier _ _ _ (subst (λ (n : ℕ). n ≤ c .before .loop .k) (c .before .before .before .pairs-in .ensures) (c .loop-test .left))) (c .before .loop .inv tree header values e below)
 
 pub signs-of-spec : {M : Type 1} → statement M
-signs-of-spec = tie.close (tie.spec Inv-loop μ-loop (search needs) (search needs) loop-holds (search needs) (search needs)
-    cast-r (search needs) (search needs) (search needs) (search needs) (search needs) loop-again returns)
+signs-of-spec = tie.close (tie.spec Inv-loop μ-loop (λ c. search needs) (λ c. search needs) loop-holds (λ c. search needs)
+    (λ c. search needs) cast-r (λ c. search needs) (λ c. search needs) (λ c. search needs) (λ c. search needs)
+    (λ c. search needs) loop-again returns)

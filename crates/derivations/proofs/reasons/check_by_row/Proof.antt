@@ -19,4 +19,4 @@ returns c =
     ∙ ap (λ (d : Constraint). checkDominates tree d r) (constraint-is by refl refl)
 
 pub check-by-row-spec : {M : Type 1} → statement M
-check-by-row-spec = tie.close (tie.spec (search needs) (search needs) returns)
+check-by-row-spec = tie.close (tie.spec (λ c. search needs) (λ c. search needs) returns)

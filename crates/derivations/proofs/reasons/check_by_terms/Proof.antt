@@ -23,4 +23,5 @@ returns c =
     ∙ ap (λ (g : ℕ → Fraction). checkDominates tree (constraintBy g (a .sense) (a .right)) r) (coefficients-are _ (k .coefficients-of .ensures) e (l .few) n)
 
 pub check-by-terms-spec : {M : Type 1} → statement M
-check-by-terms-spec = tie.close (tie.spec (search needs) (search needs) (search needs) (search needs) returns)
+check-by-terms-spec = tie.close (tie.spec (λ c. search needs) (λ c. search needs) (λ c. search needs) (λ c. search needs)
+    returns)

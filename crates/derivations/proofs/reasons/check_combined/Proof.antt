@@ -44,5 +44,5 @@ returns-3 c =
     ∙ suitable-of tree _ _ (g .same)
 
 pub check-combined-spec : {M : Type 1} → statement M
-check-combined-spec = tie.close (tie.spec (search needs) (search needs) (search needs) (search needs) (search needs) returns
-    (search needs) returns-2 (search needs) (search needs) returns-3)
+check-combined-spec = tie.close (tie.spec (λ c. search needs) (λ c. search needs) (λ c. search needs) (λ c. search needs)
+    (λ c. search needs) returns (λ c. search needs) returns-2 (λ c. search needs) (λ c. search needs) returns-3)

@@ -20,4 +20,5 @@ returns-2 c =
     require-no 15 _ (dominates-row l e v _ (c .before .dominates .ensures _ _ _ (c .before .before .compare .ensures (terms-formed l e v) are) f (right-fraction l))) (l .is .place-is) (c .if1 .left)
 
 pub check-dominates-spec : {M : Type 1} → statement M
-check-dominates-spec = tie.close (tie.spec (search needs) (search needs) (search needs) (search needs) returns returns-2)
+check-dominates-spec = tie.close (tie.spec (λ c. search needs) (λ c. search needs) (λ c. search needs) (λ c. search needs)
+    returns returns-2)

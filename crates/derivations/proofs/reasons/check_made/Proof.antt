@@ -48,5 +48,5 @@ returns-3 c =
     ∙ sym (ap (λ (b : Bool). concluded b tree r (made s)) (not-false (s .args .rounds) (k .before .before .if1 .left)))
 
 pub check-made-spec : {M : Type 1} → statement M
-check-made-spec = tie.close (tie.spec (search needs) returns (search needs) (search needs) returns-2 (search needs)
-    (search needs) returns-3)
+check-made-spec = tie.close (tie.spec (λ c. search needs) returns (λ c. search needs) (λ c. search needs) returns-2
+    (λ c. search needs) (λ c. search needs) returns-3)

@@ -28,4 +28,4 @@ returns-2 c =
     ∙ sym (ap (λ (any : Bool). checkSol tree (bestSays any (a .best)) r) (not-false (a .any) (c .before .before .if1 .left)))
 
 pub check-sol-spec : {M : Type 1} → statement M
-check-sol-spec = tie.close (tie.spec returns (search needs) (search needs) returns-2)
+check-sol-spec = tie.close (tie.spec returns (λ c. search needs) (λ c. search needs) returns-2)

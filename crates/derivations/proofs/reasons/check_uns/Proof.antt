@@ -29,5 +29,5 @@ returns-3 c =
     ∙ require-on 16 _ (w .before .before .is-proper-split .ensures tree h (b .1 .0) (b .1 .1 .1 .0)) _ (not-false _ (w .before .if1 .left))
 
 pub check-uns-spec : {M : Type 1} → statement M
-check-uns-spec = tie.close (tie.spec (search needs) returns (search needs) (search needs) (search needs) returns-2
-    (search needs) returns-3)
+check-uns-spec = tie.close (tie.spec (λ c. search needs) returns (λ c. search needs) (λ c. search needs) (λ c. search needs)
+    returns-2 (λ c. search needs) returns-3)

@@ -21,5 +21,5 @@ returns c =
     c .is-split .ensures tree (h .integers-are) (few-are e) (terms-formed l i v) (terms-formed l2 i2 v2) ∙ ap₂ (isSplit tree) (constraint-is l i v) (constraint-is l2 i2 v2)
 
 pub is-proper-split-spec : {M : Type 1} → statement M
-is-proper-split-spec = tie.close (tie.spec (search needs) (search needs) (search needs) (search needs) (search needs)
-    (search needs) (search needs) returns)
+is-proper-split-spec = tie.close (tie.spec (λ c. search needs) (λ c. search needs) (λ c. search needs) (λ c. search needs)
+    (λ c. search needs) (λ c. search needs) (λ c. search needs) returns)

@@ -14,4 +14,4 @@ returns-3 : tie.Need-returns-3
 returns-3 c = λ tree values e lt. spent-by e _ _ (c .before .before .if1 .left) lt (c .before .last-of .ensures) (c .if2 .left)
 
 pub is-spent-spec : {M : Type 1} → statement M
-is-spent-spec = tie.close (tie.spec returns (search needs) returns-2 returns-3)
+is-spent-spec = tie.close (tie.spec returns (λ c. search needs) returns-2 returns-3)

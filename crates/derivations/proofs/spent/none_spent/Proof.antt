@@ -46,5 +46,5 @@ returns-2 : tie.Need-returns-2 Inv-loop μ-loop
 returns-2 c = λ tree values e below. testing-end (c .before .loop .inv tree values e below) (c .loop-test .left)
 
 pub none-spent-spec : {M : Type 1} → statement M
-none-spent-spec = tie.close (tie.spec Inv-loop μ-loop loop-holds (search needs) (search needs) cast-r (search needs) returns
-    (search needs) (search needs) loop-again returns-2)
+none-spent-spec = tie.close (tie.spec Inv-loop μ-loop loop-holds (λ c. search needs) (λ c. search needs) cast-r
+    (λ c. search needs) returns (λ c. search needs) (λ c. search needs) loop-again returns-2)

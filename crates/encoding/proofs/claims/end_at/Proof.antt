@@ -12,4 +12,4 @@ returns-2 : tie.Need-returns-2
 returns-2 c = λ e p h. end-finite _ _ e (c .before .if1 .left) (c .before .before .cell-from .ensures .is ∙ p) (c .value-from .ensures) h
 
 pub end-at-spec : {M : Type 1} → statement M
-end-at-spec = tie.close (tie.spec (search needs) returns (search needs) returns-2)
+end-at-spec = tie.close (tie.spec (λ c. search needs) returns (λ c. search needs) returns-2)

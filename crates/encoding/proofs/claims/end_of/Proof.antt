@@ -25,4 +25,5 @@ returns-3 c =
     ∙ ap (λ (b : Bool). endIn b x) (sym (c .before .if2 .left))
 
 pub end-of-spec : {M : Type 1} → statement M
-end-of-spec = tie.close (tie.spec (search needs) returns (search needs) (search needs) (search needs) returns-2 returns-3)
+end-of-spec = tie.close (tie.spec (λ c. search needs) returns (λ c. search needs) (λ c. search needs) (λ c. search needs)
+    returns-2 returns-3)

@@ -9,4 +9,4 @@ returns : tie.Need-returns
 returns c = λ x e. infeas-by x (c .cell-at .ensures .is ∙ e)
 
 pub is-infeas-spec : {M : Type 1} → statement M
-is-infeas-spec = tie.close (tie.spec (search needs) returns)
+is-infeas-spec = tie.close (tie.spec (λ c. search needs) returns)

@@ -39,5 +39,5 @@ returns : tie.Need-returns Inv-loop μ-loop
 returns c = marking-end _ _ _ (omega arith) (c .before .loop .inv)
 
 pub marks-of-spec : {M : Type 1} → statement M
-marks-of-spec = tie.close (tie.spec Inv-loop μ-loop loop-holds (search needs) (search needs) cast-v (search needs)
-    (search needs) (search needs) loop-again returns)
+marks-of-spec = tie.close (tie.spec Inv-loop μ-loop loop-holds (λ c. search needs) (λ c. search needs) cast-v
+    (λ c. search needs) (λ c. search needs) (λ c. search needs) loop-again returns)

@@ -16,4 +16,4 @@ returns-3 : tie.Need-returns-3
 returns-3 c = after-other _ false (c .before .before .if1 .left) (sym (c .before .is-combined .ensures) ∙ c .if2 .left)
 
 pub after-word-spec : {M : Type 1} → statement M
-after-word-spec = tie.close (tie.spec returns (search needs) (search needs) returns-2 returns-3)
+after-word-spec = tie.close (tie.spec returns (λ c. search needs) (λ c. search needs) returns-2 returns-3)

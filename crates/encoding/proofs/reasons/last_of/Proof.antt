@@ -8,5 +8,5 @@ returns : tie.Need-returns
 returns c = last-is (c .before .before .before .before .reason-of .ensures) (c .before .before .before .cell-at .ensures) (c .before .before .cell-at2 .ensures) (c .before .after-word .ensures) (c .cell-from .ensures)
 
 pub last-of-spec : {M : Type 1} → statement M
-last-of-spec = tie.close (tie.spec (search needs) (search needs) (search needs) (search needs) (search needs) (search needs)
-    (search needs) returns)
+last-of-spec = tie.close (tie.spec (λ c. search needs) (λ c. search needs) (λ c. search needs) (λ c. search needs)
+    (λ c. search needs) (λ c. search needs) (λ c. search needs) returns)

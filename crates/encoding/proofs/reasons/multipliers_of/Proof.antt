@@ -35,5 +35,5 @@ returns c =
     multipliers-are (m .before .before .before .entry-at .ensures) (m .before .cell-at .ensures) (m .own-terms .ensures) (c .before .cell-at2 .ensures)
 
 pub multipliers-of-spec : {M : Type 1} → statement M
-multipliers-of-spec = tie.close (tie.spec (search needs) (search needs) (search needs) (search needs) (search needs) add-at-2
-    add-at-3 (search needs) add-t8 (search needs) add-t10 returns)
+multipliers-of-spec = tie.close (tie.spec (λ c. search needs) (λ c. search needs) (λ c. search needs) (λ c. search needs)
+    (λ c. search needs) add-at-2 add-at-3 (λ c. search needs) add-t8 (λ c. search needs) add-t10 returns)

@@ -26,5 +26,5 @@ returns-3 c =
     named-other (m .before .reason-of .ensures) (m .cell-at .ensures) false (t .before .if1 .left) (sym (t .is-combined .ensures) ∙ c .before .if2 .left)
 
 pub named-by-spec : {M : Type 1} → statement M
-named-by-spec = tie.close (tie.spec (search needs) (search needs) (search needs) (search needs) returns (search needs)
-    (search needs) (search needs) returns-2 (search needs) returns-3)
+named-by-spec = tie.close (tie.spec (λ c. search needs) (λ c. search needs) (λ c. search needs) (λ c. search needs) returns
+    (λ c. search needs) (λ c. search needs) (λ c. search needs) returns-2 (λ c. search needs) returns-3)

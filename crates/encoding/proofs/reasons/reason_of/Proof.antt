@@ -12,5 +12,5 @@ returns : tie.Need-returns
 returns c = reason-is (c .before .before .before .before .entry-at .ensures) (c .before .cell-at .ensures) (c .own-terms .ensures)
 
 pub reason-of-spec : {M : Type 1} → statement M
-reason-of-spec = tie.close (tie.spec (search needs) (search needs) (search needs) (search needs) (search needs) add-result-2
-    returns)
+reason-of-spec = tie.close (tie.spec (λ c. search needs) (λ c. search needs) (λ c. search needs) (λ c. search needs)
+    (λ c. search needs) add-result-2 returns)

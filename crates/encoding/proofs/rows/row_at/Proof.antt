@@ -10,4 +10,5 @@ returns c =
     row-is (c .before .before .before .before .entry-at .ensures) (c .before .before .before .cell-at .ensures) (c .before .before .sense-of .ensures) (c .before .value-at .ensures) (c .side-at .ensures) k
 
 pub row-at-spec : {M : Type 1} → statement M
-row-at-spec = tie.close (tie.spec (search needs) (search needs) (search needs) (search needs) (search needs) returns)
+row-at-spec = tie.close (tie.spec (λ c. search needs) (λ c. search needs) (λ c. search needs) (λ c. search needs)
+    (λ c. search needs) returns)

@@ -8,4 +8,4 @@ returns : tie.Need-returns
 returns c = λ tree values objective row k. sense-found (c .sense-of .result) (c .before .before .entry-at .ensures) (c .before .cell-at .ensures) (c .sense-of .ensures) k
 
 pub sense-at-spec : {M : Type 1} → statement M
-sense-at-spec = tie.close (tie.spec (search needs) (search needs) (search needs) returns)
+sense-at-spec = tie.close (tie.spec (λ c. search needs) (λ c. search needs) (λ c. search needs) returns)

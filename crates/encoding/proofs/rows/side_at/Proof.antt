@@ -11,4 +11,5 @@ returns-2 : tie.Need-returns-2
 returns-2 c = side-own _ _ _ (c .before .cell-at .ensures) (c .if1 .left)
 
 pub side-at-spec : {M : Type 1} → statement M
-side-at-spec = tie.close (tie.spec (search needs) (search needs) returns (search needs) (search needs) (search needs) returns-2)
+side-at-spec = tie.close (tie.spec (λ c. search needs) (λ c. search needs) returns (λ c. search needs) (λ c. search needs)
+    (λ c. search needs) returns-2)

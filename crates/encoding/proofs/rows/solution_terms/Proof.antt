@@ -12,4 +12,4 @@ returns c =
     pairs-at (a .index .now) (a .rows .now) (mostRows + a .j) (c .before .before .solution-at .ensures) (c .before .cell-at .ensures)
 
 pub solution-terms-spec : {M : Type 1} → statement M
-solution-terms-spec = tie.close (tie.spec (search needs) (search needs) (search needs) returns)
+solution-terms-spec = tie.close (tie.spec (λ c. search needs) (λ c. search needs) (λ c. search needs) returns)

@@ -42,5 +42,5 @@ returns-2 : tie.Need-returns-2 Inv-loop μ-loop
 returns-2 c = tests-end _ (c .before .loop .inv) (listed-none aTerm _ _ _ (subst (λ (n : ℕ). n ≤ c .before .loop .k) (c .before .before .pairs-in .ensures) (c .loop-test .left)))
 
 pub all-zero-spec : {M : Type 1} → statement M
-all-zero-spec = tie.close (tie.spec Inv-loop μ-loop (search needs) loop-holds (search needs) (search needs) returns
-    (search needs) (search needs) loop-again returns-2)
+all-zero-spec = tie.close (tie.spec Inv-loop μ-loop (λ c. search needs) loop-holds (λ c. search needs) (λ c. search needs)
+    returns (λ c. search needs) (λ c. search needs) loop-again returns-2)

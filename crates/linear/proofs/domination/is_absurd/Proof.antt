@@ -30,4 +30,4 @@ returns-2 c =
     and-neither (everyBelow n (λ v. isZero (exact (valueIn (termsIn (a .variables .now) (a .parts .now)) v)))) (c .before .fails-at-zero .ensures) (c .if1 .left)
 
 pub is-absurd-spec : {M : Type 1} → statement M
-is-absurd-spec = tie.close (tie.spec (search needs) (search needs) returns returns-2)
+is-absurd-spec = tie.close (tie.spec (λ c. search needs) (λ c. search needs) returns returns-2)

@@ -39,5 +39,5 @@ returns : tie.Need-returns Inv-loop μ-loop
 returns c = λ dens. counted-end (c .before .loop .inv) (omega (arith, c .loop-test .left, c .before .before .in-arrays .ensures)) dens
 
 pub nonzeros-spec : {M : Type 1} → statement M
-nonzeros-spec = tie.close (tie.spec Inv-loop μ-loop (search needs) loop-holds mul-if1 element-copy-out-if1 add-count
-    (search needs) (search needs) loop-again returns)
+nonzeros-spec = tie.close (tie.spec Inv-loop μ-loop (λ c. search needs) loop-holds mul-if1 element-copy-out-if1 add-count
+    (λ c. search needs) (λ c. search needs) loop-again returns)

@@ -56,6 +56,6 @@ returns-2 c =
     (matched-end _ _ _ (c .before .loop .inv) (subst (λ (n : ℕ). n ≤ c .before .loop .k) (c .before .before .pairs-in .ensures) (c .loop-test .left)) _)
 
 pub same-terms-spec : {M : Type 1} → statement M
-same-terms-spec = tie.close (tie.spec Inv-loop μ-loop (search needs) loop-holds (search needs) (search needs) cast-v
-    (search needs) (search needs) (search needs) returns (search needs) add-found (search needs) (search needs) loop-again
-    returns-2)
+same-terms-spec = tie.close (tie.spec Inv-loop μ-loop (λ c. search needs) loop-holds (λ c. search needs) (λ c. search needs)
+    cast-v (λ c. search needs) (λ c. search needs) (λ c. search needs) returns (λ c. search needs) add-found (λ c. search needs)
+    (λ c. search needs) loop-again returns-2)

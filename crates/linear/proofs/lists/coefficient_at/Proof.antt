@@ -27,5 +27,5 @@ returns-3 c =
     ∙ read-some (a .nums .now) (a .dens .now) (a .v) (c .before .before .before .if1 .left) (λ e. c .if2 .left (ap (ofZ w32) e))
 
 pub coefficient-at-spec : {M : Type 1} → statement M
-coefficient-at-spec = tie.close (tie.spec returns (search needs) (search needs) (search needs) (search needs) returns-2
-    returns-3)
+coefficient-at-spec = tie.close (tie.spec returns (λ c. search needs) (λ c. search needs) (λ c. search needs)
+    (λ c. search needs) returns-2 returns-3)

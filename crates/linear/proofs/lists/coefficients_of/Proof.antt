@@ -43,6 +43,6 @@ returns : tie.Need-returns Inv-loop μ-loop
 returns c = spread-end _ _ (c .before .loop .inv) (c .loop-test .left)
 
 pub coefficients-of-spec : {M : Type 1} → statement M
-coefficients-of-spec = tie.close (tie.spec Inv-loop μ-loop (search needs) loop-holds (search needs) mul-v shared-slice-read-v
-    cast-v value-at-requires (search needs) (search needs) (search needs) (search needs) (search needs) loop-again
-    (search needs) loop-again-2 returns)
+coefficients-of-spec = tie.close (tie.spec Inv-loop μ-loop (λ c. search needs) loop-holds (λ c. search needs) mul-v
+    shared-slice-read-v cast-v value-at-requires (λ c. search needs) (λ c. search needs) (λ c. search needs) (λ c. search needs)
+    (λ c. search needs) loop-again (λ c. search needs) loop-again-2 returns)

@@ -14,4 +14,4 @@ unfolding marked
 returns-2 c = rw (le-ltb (c .before .args .v) 256 (c .if1 .left))
 
 pub is-marked-spec : {M : Type 1} → statement M
-is-marked-spec = tie.close (tie.spec (search needs) returns returns-2)
+is-marked-spec = tie.close (tie.spec (λ c. search needs) returns returns-2)

@@ -46,5 +46,6 @@ returns-2 c =
     ∙ left-side _ _ _ (record { terms-below = below; fractions = are; place = place }) point e
 
 pub left-of-spec : {M : Type 1} → statement M
-left-of-spec = tie.close (tie.spec Inv-loop μ-loop (search needs) loop-holds (search needs) (search needs) cast-v (search needs)
-    (search needs) (search needs) (search needs) returns (search needs) (search needs) loop-again returns-2)
+left-of-spec = tie.close (tie.spec Inv-loop μ-loop (λ c. search needs) loop-holds (λ c. search needs) (λ c. search needs) cast-v
+    (λ c. search needs) (λ c. search needs) (λ c. search needs) (λ c. search needs) returns (λ c. search needs)
+    (λ c. search needs) loop-again returns-2)

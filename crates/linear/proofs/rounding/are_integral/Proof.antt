@@ -54,5 +54,6 @@ returns-2 c =
     ∙ integral-listed tree n _ are d _ formed e
 
 pub are-integral-spec : {M : Type 1} → statement M
-are-integral-spec = tie.close (tie.spec Inv-loop μ-loop (search needs) loop-holds (search needs) (search needs) cast-v
-    (search needs) (search needs) (search needs) returns (search needs) (search needs) loop-again returns-2)
+are-integral-spec = tie.close (tie.spec Inv-loop μ-loop (λ c. search needs) loop-holds (λ c. search needs) (λ c. search needs)
+    cast-v (λ c. search needs) (λ c. search needs) (λ c. search needs) returns (λ c. search needs) (λ c. search needs)
+    loop-again returns-2)

@@ -22,4 +22,4 @@ returns-2 c =
     integral ∙ and-yes (isIntegral tree d) (ap not (c .before .same-sense .ensures ∙ ap (λ (s : Sense). sameSense s equal) (sym e))) (ap not (c .if1 .left))
 
 pub can-be-rounded-spec : {M : Type 1} → statement M
-can-be-rounded-spec = tie.close (tie.spec (search needs) returns returns-2)
+can-be-rounded-spec = tie.close (tie.spec (λ c. search needs) returns returns-2)

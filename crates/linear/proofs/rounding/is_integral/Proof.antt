@@ -52,5 +52,5 @@ returns-2 c =
     ∙ integral-is tree _ _ are d _ e
 
 pub is-integral-spec : {M : Type 1} → statement M
-is-integral-spec = tie.close (tie.spec Inv-loop μ-loop (search needs) loop-holds (search needs) (search needs) (search needs)
-    returns (search needs) (search needs) loop-again returns-2)
+is-integral-spec = tie.close (tie.spec Inv-loop μ-loop (λ c. search needs) loop-holds (λ c. search needs) (λ c. search needs)
+    (λ c. search needs) returns (λ c. search needs) (λ c. search needs) loop-again returns-2)

@@ -23,5 +23,5 @@ returns-3 c =
     (c .with-rounding2 .ensures ∙ ap (withRounding _) (c .before .ceiling .ensures v)) v
 
 pub rounded-right-spec : {M : Type 1} → statement M
-rounded-right-spec = tie.close (tie.spec (search needs) (search needs) (search needs) (search needs) (search needs)
-    (search needs) (search needs) returns returns-2 returns-3)
+rounded-right-spec = tie.close (tie.spec (λ c. search needs) (λ c. search needs) (λ c. search needs) (λ c. search needs)
+    (λ c. search needs) (λ c. search needs) (λ c. search needs) returns returns-2 returns-3)

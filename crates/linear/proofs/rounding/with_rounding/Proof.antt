@@ -8,4 +8,4 @@ returns : tie.Need-returns
 returns c = rw (c .before .rounding .given .1, back-of (c .before .rounding .given .0 .0) (c .known-told .given .0 .1))
 
 pub with-rounding-spec : {M : Type 1} → statement M
-with-rounding-spec = tie.close (tie.spec (search needs) (search needs) returns (λ c. search needs))
+with-rounding-spec = tie.close (tie.spec (λ c. search needs) (λ c. search needs) returns (λ c. search needs))

@@ -20,4 +20,5 @@ returns-3 : tie.Need-returns-3
 returns-3 c = rw (c .enum-told3 .given .1) (ap (ltZ (pos 0)) (back-of (c .before .before .before .args .right .num) (c .before .before .struct-told .given .0 .1)))
 
 pub fails-at-zero-spec : {M : Type 1} → statement M
-fails-at-zero-spec = tie.close (tie.spec (search needs) (search needs) (search needs) returns returns-2 returns-3)
+fails-at-zero-spec = tie.close (tie.spec (λ c. search needs) (λ c. search needs) (λ c. search needs) returns returns-2
+    returns-3)

@@ -13,5 +13,5 @@ returns-3 : tie.Need-returns-3
 returns-3 c = λ v w. rw (c .before .enum-told3 .given .1) (c .is-at-most2 .ensures w v)
 
 pub holds-spec : {M : Type 1} → statement M
-holds-spec = tie.close (tie.spec (search needs) (search needs) (search needs) (search needs) (search needs) (search needs)
-    returns returns-2 returns-3)
+holds-spec = tie.close (tie.spec (λ c. search needs) (λ c. search needs) (λ c. search needs) (λ c. search needs)
+    (λ c. search needs) (λ c. search needs) returns returns-2 returns-3)

@@ -31,6 +31,6 @@ returns-7 : tie.Need-returns-7
 returns-7 c = λ v w. rw (c .before .enum-told9 .given .1, c .before .before .before .enum-told6 .given .1) (c .is-at-most2 .ensures w v)
 
 pub is-tighter-spec : {M : Type 1} → statement M
-is-tighter-spec = tie.close (tie.spec (search needs) (search needs) (search needs) (search needs) (search needs) (search needs)
-    (search needs) (search needs) (search needs) (search needs) (search needs) (search needs) returns returns-2 returns-3
-    returns-4 returns-5 returns-6 returns-7)
+is-tighter-spec = tie.close (tie.spec (λ c. search needs) (λ c. search needs) (λ c. search needs) (λ c. search needs)
+    (λ c. search needs) (λ c. search needs) (λ c. search needs) (λ c. search needs) (λ c. search needs) (λ c. search needs)
+    (λ c. search needs) (λ c. search needs) returns returns-2 returns-3 returns-4 returns-5 returns-6 returns-7)

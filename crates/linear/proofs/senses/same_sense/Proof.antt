@@ -9,4 +9,4 @@ returns : tie.Need-returns
 returns c = ap₂ eqb (c .before .sense-cell .ensures) (c .sense-cell2 .ensures)
 
 pub same-sense-spec : {M : Type 1} → statement M
-same-sense-spec = tie.close (tie.spec (search needs) (search needs) returns)
+same-sense-spec = tie.close (tie.spec (λ c. search needs) (λ c. search needs) returns)

@@ -23,5 +23,5 @@ returns-3 : tie.Need-returns-3
 returns-3 c = rw (c .enum-told3 .given .1) (copied (c .before .before .before .args .factor .num) (c .before .before .struct-told .given .0 .1) ∙ sym (*ℤ-pos-one (c .before .before .before .args .factor .num)))
 
 pub signed-multiplier-spec : {M : Type 1} → statement M
-signed-multiplier-spec = tie.close (tie.spec cast-n (search needs) (search needs) sub-result (search needs) returns returns-2
-    returns-3)
+signed-multiplier-spec = tie.close (tie.spec cast-n (λ c. search needs) (λ c. search needs) sub-result (λ c. search needs)
+    returns returns-2 returns-3)

@@ -22,4 +22,4 @@ returns-3 : tie.Need-returns-3
 returns-3 c = λ f g. and-no _ (and-no _ (c .before .same-sense .ensures) (c .if1 .left)) refl
 
 pub are-adjacent-spec : {M : Type 1} → statement M
-are-adjacent-spec = tie.close (tie.spec (search needs) (search needs) (search needs) returns returns-2 returns-3)
+are-adjacent-spec = tie.close (tie.spec (λ c. search needs) (λ c. search needs) (λ c. search needs) returns returns-2 returns-3)

@@ -33,5 +33,5 @@ returns-3 : tie.Need-returns-3
 returns-3 c = and-no _ (c .before .is-whole .ensures) (c .if1 .left)
 
 pub are-next-spec : {M : Type 1} → statement M
-are-next-spec = tie.close (tie.spec (search needs) (search needs) cast-result cast-result-2 add-result returns returns-2
-    returns-3)
+are-next-spec = tie.close (tie.spec (λ c. search needs) (λ c. search needs) cast-result cast-result-2 add-result returns
+    returns-2 returns-3)

@@ -61,5 +61,5 @@ returns-3 c =
     ∙ split-by tree (row s) (row2 s) (i .are-integral .ensures tree _ are formed (row s) refl) (not-false _ (k .before .if2 .left)) (adjacent-is a) (not-false _ (i .before .if1 .left))
 
 pub is-split-spec : {M : Type 1} → statement M
-is-split-spec = tie.close (tie.spec (search needs) (search needs) returns (search needs) returns-2 (search needs) (search needs)
-    returns-3)
+is-split-spec = tie.close (tie.spec (λ c. search needs) (λ c. search needs) returns (λ c. search needs) returns-2
+    (λ c. search needs) (λ c. search needs) returns-3)

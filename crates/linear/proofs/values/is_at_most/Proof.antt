@@ -18,5 +18,5 @@ returns-4 : tie.Need-returns-4
 returns-4 c = λ v w. passed notGreater (c .before .before .compare .ensures v w) (c .enum-told4 .given .1)
 
 pub is-at-most-spec : {M : Type 1} → statement M
-is-at-most-spec = tie.close (tie.spec (search needs) (search needs) (search needs) (search needs) (search needs) returns
-    returns-2 returns-3 returns-4)
+is-at-most-spec = tie.close (tie.spec (λ c. search needs) (λ c. search needs) (λ c. search needs) (λ c. search needs)
+    (λ c. search needs) returns returns-2 returns-3 returns-4)

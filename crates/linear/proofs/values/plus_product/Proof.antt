@@ -21,4 +21,4 @@ returns c =
     ap (within12 place) (c .add-product .ensures u v w) ∙ in-two place (s .args .sum) (productOf (s .args .a) (s .args .b))
 
 pub plus-product-spec : {M : Type 1} → statement M
-plus-product-spec = tie.close (tie.spec (search needs) returns)
+plus-product-spec = tie.close (tie.spec (λ c. search needs) returns)

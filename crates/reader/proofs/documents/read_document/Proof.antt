@@ -38,6 +38,7 @@ returns c =
     .is room tt
 
 pub read-document-spec : {M : Type 1} → statement M
-read-document-spec = tie.close (tie.spec (search needs) (search needs) (search needs) (search needs) (search needs)
-    (search needs) (search needs) (search needs) (search needs) (search needs) (search needs) (search needs) (search needs)
-    (search needs) same-length (search needs) (search needs) returns)
+read-document-spec = tie.close (tie.spec (λ c. search needs) (λ c. search needs) (λ c. search needs) (λ c. search needs)
+    (λ c. search needs) (λ c. search needs) (λ c. search needs) (λ c. search needs) (λ c. search needs) (λ c. search needs)
+    (λ c. search needs) (λ c. search needs) (λ c. search needs) (λ c. search needs) same-length (λ c. search needs)
+    (λ c. search needs) returns)

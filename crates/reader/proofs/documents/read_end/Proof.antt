@@ -23,5 +23,5 @@ returns-3 c =
     end-by text (s .s .given .1) (token-found text (s .s .given .0 .1 .0 .at) (t .next-token .ensures) (c .before .from .given .1) .first)
 
 pub read-end-spec : {M : Type 1} → statement M
-read-end-spec = tie.close (tie.spec (search needs) (search needs) returns (search needs) (search needs) (search needs) returns-2
-    returns-3)
+read-end-spec = tie.close (tie.spec (λ c. search needs) (λ c. search needs) returns (λ c. search needs) (λ c. search needs)
+    (λ c. search needs) returns-2 returns-3)

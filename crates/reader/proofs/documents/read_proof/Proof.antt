@@ -24,5 +24,6 @@ returns c =
     proof-follows (s .args .n) (s .args .m) k same (s .pre) _ (d .read-derivations .result) (l .read-relation .ensures _) (z .read-solutions .ensures few) (d .read-derivations .ensures few (s .pre)) (c .before .number-of .ensures) (c .number-of2 .ensures) refl (ap (λ (i : ℕ). s .args .m + i) (c .before .before .count-of .ensures))
 
 pub read-proof-spec : {M : Type 1} → statement M
-read-proof-spec = tie.close (tie.spec (search needs) (search needs) (search needs) (search needs) add-total (search needs)
-    (search needs) (search needs) (search needs) (search needs) (search needs) returns)
+read-proof-spec = tie.close (tie.spec (λ c. search needs) (λ c. search needs) (λ c. search needs) (λ c. search needs) add-total
+    (λ c. search needs) (λ c. search needs) (λ c. search needs) (λ c. search needs) (λ c. search needs) (λ c. search needs)
+    returns)

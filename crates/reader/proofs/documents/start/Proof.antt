@@ -10,4 +10,4 @@ returns : tie.Need-returns
 returns c = ap (λ (at : ℕ). Next 0 (record { at = at; cells = 0; values = 0 })) (c .comments-end .ensures)
 
 pub start-spec : {M : Type 1} → statement M
-start-spec = tie.close (tie.spec (search needs) returns)
+start-spec = tie.close (tie.spec (λ c. search needs) returns)

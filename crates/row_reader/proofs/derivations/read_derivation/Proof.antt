@@ -14,5 +14,5 @@ returns c =
     view-follows (λ p n t. (t .2, t .0 .1)) (then-follows (λ a n t. refl) leads-always (r .read-row .ensures small own prints) (j .read-justification .ensures _ (omega (arith, own)) total))
 
 pub read-derivation-spec : {M : Type 1} → statement M
-read-derivation-spec = tie.close (tie.spec (search needs) (search needs) (search needs) (search needs) (search needs)
-    (search needs) returns)
+read-derivation-spec = tie.close (tie.spec (λ c. search needs) (λ c. search needs) (λ c. search needs) (λ c. search needs)
+    (λ c. search needs) (λ c. search needs) returns)

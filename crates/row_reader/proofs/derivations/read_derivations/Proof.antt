@@ -143,7 +143,8 @@ returns-4 c =
     λ small fits. follows-by (l .before .before .before .before .s .given .1) (record { is = λ room q. looping-done (l .loop .inv .0 small fits (q .1)) (c .loop-test .left) (λ l m. tt) room })
 
 pub read-derivations-spec : {M : Type 1} → statement M
-read-derivations-spec = tie.close (tie.spec Inv-loop μ-loop (search needs) (search needs) returns (search needs) returns-2
-    loop-holds add-read-derivation add-read-derivation-2 (search needs) (search needs) (search needs) (search needs)
-    (search needs) (search needs) (search needs) returns-3 with-reason-requires (search needs) (search needs) loop-again
-    (search needs) (search needs) (search needs) (search needs) returns-4)
+read-derivations-spec = tie.close (tie.spec Inv-loop μ-loop (λ c. search needs) (λ c. search needs) returns (λ c. search needs)
+    returns-2 loop-holds add-read-derivation add-read-derivation-2 (λ c. search needs) (λ c. search needs) (λ c. search needs)
+    (λ c. search needs) (λ c. search needs) (λ c. search needs) (λ c. search needs) returns-3 with-reason-requires
+    (λ c. search needs) (λ c. search needs) loop-again (λ c. search needs) (λ c. search needs) (λ c. search needs)
+    (λ c. search needs) returns-4)

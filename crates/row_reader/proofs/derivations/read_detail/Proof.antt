@@ -39,5 +39,6 @@ returns-5 c =
     λ w rs small t. detail-none (s .own) (k .before .before .s .given .1) w t (k .if1 .left) (c .before .if2 .left) (c .if3 .left)
 
 pub read-detail-spec : {M : Type 1} → statement M
-read-detail-spec = tie.close (tie.spec (search needs) (search needs) returns (search needs) (search needs) (search needs)
-    returns-2 (search needs) (search needs) (search needs) returns-3 (search needs) (search needs) returns-4 returns-5)
+read-detail-spec = tie.close (tie.spec (λ c. search needs) (λ c. search needs) returns (λ c. search needs) (λ c. search needs)
+    (λ c. search needs) returns-2 (λ c. search needs) (λ c. search needs) (λ c. search needs) returns-3 (λ c. search needs)
+    (λ c. search needs) returns-4 returns-5)

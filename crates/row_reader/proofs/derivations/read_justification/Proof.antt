@@ -20,5 +20,6 @@ returns c =
     (then-follows (λ a n t. refl) leads-always (k .read-word2 .ensures _ _ rs) (view-follows {tells = λ a n. Unit {0}} (λ a n t. tt) (i .read-index-or .ensures .0 _ rs (omega (arith, few))))) (c .carry .ensures)))
 
 pub read-justification-spec : {M : Type 1} → statement M
-read-justification-spec = tie.close (tie.spec (search needs) (search needs) (search needs) (search needs) (search needs)
-    (search needs) (search needs) (search needs) (search needs) (search needs) (search needs) returns)
+read-justification-spec = tie.close (tie.spec (λ c. search needs) (λ c. search needs) (λ c. search needs) (λ c. search needs)
+    (λ c. search needs) (λ c. search needs) (λ c. search needs) (λ c. search needs) (λ c. search needs) (λ c. search needs)
+    (λ c. search needs) returns)

@@ -15,4 +15,5 @@ returns c =
     view-follows (λ p n t. word-cell (p .0) (p .1) ∙ t) (carry-each asmWord leads-always (w .read-reason-word .ensures .0 _ rs) (λ a t. d .read-detail .ensures a rs small t) (c .carry .ensures))
 
 pub read-reason-spec : {M : Type 1} → statement M
-read-reason-spec = tie.close (tie.spec (search needs) (search needs) (search needs) (search needs) (search needs) returns)
+read-reason-spec = tie.close (tie.spec (λ c. search needs) (λ c. search needs) (λ c. search needs) (λ c. search needs)
+    (λ c. search needs) returns)

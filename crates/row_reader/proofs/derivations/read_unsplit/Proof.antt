@@ -19,4 +19,5 @@ returns c =
     (then-follows (λ a n t. refl) leads-always (e .read-index3 .ensures .0 vs rs (omega (arith, small))) (d .read-index4 .ensures .0 vs rs (omega (arith, small))))))
 
 pub read-unsplit-spec : {M : Type 1} → statement M
-read-unsplit-spec = tie.close (tie.spec (search needs) (search needs) (search needs) (search needs) (search needs) returns)
+read-unsplit-spec = tie.close (tie.spec (λ c. search needs) (λ c. search needs) (λ c. search needs) (λ c. search needs)
+    (λ c. search needs) returns)

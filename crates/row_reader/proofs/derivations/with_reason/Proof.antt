@@ -13,4 +13,4 @@ returns-2 : tie.Need-returns-2
 returns-2 c = rw (ne-eqb _ _ (c .if1 .left)) (sym (add-zero _))
 
 pub with-reason-spec : {M : Type 1} → statement M
-with-reason-spec = tie.close (tie.spec (search needs) returns returns-2)
+with-reason-spec = tie.close (tie.spec (λ c. search needs) returns returns-2)

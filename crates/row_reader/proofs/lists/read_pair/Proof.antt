@@ -12,4 +12,5 @@ returns c =
     ((λ used rs small fits marks. view-follows (λ p n t. t .0 .1) (then-follows (λ a n t. refl) (leads-value (λ n a. refl)) (i .ensures .0 used _ rs small fits marks) (v .read-value .ensures .0 _ rs))), i .ensures .1 .1)
 
 pub read-pair-spec : {M : Type 1} → statement M
-read-pair-spec = tie.close (tie.spec (search needs) (search needs) (search needs) (search needs) (search needs) returns)
+read-pair-spec = tie.close (tie.spec (λ c. search needs) (λ c. search needs) (λ c. search needs) (λ c. search needs)
+    (λ c. search needs) returns)

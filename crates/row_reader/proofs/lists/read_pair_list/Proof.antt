@@ -19,4 +19,5 @@ returns c =
     (then-follows (λ a n t. ap (λ (k : ℕ). items k (pair (s .bound))) (sym (t .0))) leads-always (k .read-count .ensures .0 _ rs (omega (arith, small))) (p .read-pairs .ensures rs small))
 
 pub read-pair-list-spec : {M : Type 1} → statement M
-read-pair-list-spec = tie.close (tie.spec (search needs) (search needs) (search needs) (search needs) returns)
+read-pair-list-spec = tie.close (tie.spec (λ c. search needs) (λ c. search needs) (λ c. search needs) (λ c. search needs)
+    returns)

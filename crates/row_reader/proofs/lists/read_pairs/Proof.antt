@@ -77,6 +77,6 @@ returns-3 c =
     λ rs small. follows-by (l .before .before .s .given .1) (record { is = λ room q. looping-done (l .loop .inv .0 rs small) (c .loop-test .left) (λ l m. tt) room })
 
 pub read-pairs-spec : {M : Type 1} → statement M
-read-pairs-spec = tie.close (tie.spec Inv-loop μ-loop (search needs) (search needs) returns loop-holds (search needs)
-    (search needs) (search needs) (search needs) (search needs) (search needs) returns-2 (search needs) (search needs)
-    loop-again (search needs) (search needs) returns-3)
+read-pairs-spec = tie.close (tie.spec Inv-loop μ-loop (λ c. search needs) (λ c. search needs) returns loop-holds
+    (λ c. search needs) (λ c. search needs) (λ c. search needs) (λ c. search needs) (λ c. search needs) (λ c. search needs)
+    returns-2 (λ c. search needs) (λ c. search needs) loop-again (λ c. search needs) (λ c. search needs) returns-3)

@@ -50,5 +50,5 @@ returns-3 c =
     λ k rs small t. some (s .n) small (i .before .before .s .given .1) (i .if1 .left) (p .read-pairs .ensures rs (omega (arith, small))) k t
 
 pub read-listed-spec : {M : Type 1} → statement M
-read-listed-spec = tie.close (tie.spec (search needs) (search needs) returns returns-2 (search needs)
-    (search needs) (search needs) returns-3)
+read-listed-spec = tie.close (tie.spec (λ c. search needs) (λ c. search needs) returns returns-2 (λ c. search needs)
+    (λ c. search needs) (λ c. search needs) returns-3)

@@ -13,5 +13,5 @@ returns c =
     λ small few prints. view-follows (λ a k t. t .0 .1) (then-follows (λ a k t. refl) leads-always (n .read-row-name .ensures .0 _ _ (omega (arith, few)) prints) (b .read-row-body .ensures _ small))
 
 pub read-row-spec : {M : Type 1} → statement M
-read-row-spec = tie.close (tie.spec (search needs) (search needs) (search needs) (search needs) (search needs) (search needs)
-    returns)
+read-row-spec = tie.close (tie.spec (λ c. search needs) (λ c. search needs) (λ c. search needs) (λ c. search needs)
+    (λ c. search needs) (λ c. search needs) returns)

@@ -15,4 +15,5 @@ returns c =
     (then-follows (λ a n t. refl) (leads-value (λ n a. refl)) (s .read-sense .ensures .0 _ rs) (then-follows (λ a n t. refl) leads-always (v .read-value .ensures .0 _ rs) (b .read-side .ensures rs small)))
 
 pub read-row-body-spec : {M : Type 1} → statement M
-read-row-body-spec = tie.close (tie.spec (search needs) (search needs) (search needs) (search needs) (search needs) returns)
+read-row-body-spec = tie.close (tie.spec (λ c. search needs) (λ c. search needs) (λ c. search needs) (λ c. search needs)
+    (λ c. search needs) returns)

@@ -97,6 +97,7 @@ returns-3 c =
     λ small few long. follows-by (l .before .before .s .given .1) (record { is = λ room q. looping-done (l .loop .inv .0 small few long) (c .loop-test .left) (λ l m. m) room })
 
 pub read-rows-spec : {M : Type 1} → statement M
-read-rows-spec = tie.close (tie.spec Inv-loop μ-loop (search needs) (search needs) returns loop-holds (search needs)
-    (search needs) (search needs) (search needs) (search needs) (search needs) (search needs) returns-2 (search needs)
-    (search needs) loop-again (search needs) (search needs) (search needs) (search needs) returns-3)
+read-rows-spec = tie.close (tie.spec Inv-loop μ-loop (λ c. search needs) (λ c. search needs) returns loop-holds
+    (λ c. search needs) (λ c. search needs) (λ c. search needs) (λ c. search needs) (λ c. search needs) (λ c. search needs)
+    (λ c. search needs) returns-2 (λ c. search needs) (λ c. search needs) loop-again (λ c. search needs) (λ c. search needs)
+    (λ c. search needs) (λ c. search needs) returns-3)

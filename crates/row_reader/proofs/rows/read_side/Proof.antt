@@ -24,5 +24,5 @@ returns c =
     view-follows (λ a n t. tt) (then-each instead leads-always f (λ a t. l .read-listed .ensures a rs small t))
 
 pub read-side-spec : {M : Type 1} → statement M
-read-side-spec = tie.close (tie.spec (search needs) (search needs) (search needs) (search needs) (search needs) (search needs)
-    (search needs) returns)
+read-side-spec = tie.close (tie.spec (λ c. search needs) (λ c. search needs) (λ c. search needs) (λ c. search needs)
+    (λ c. search needs) (λ c. search needs) (λ c. search needs) returns)

@@ -18,5 +18,6 @@ returns c =
     constraints-follows (s .n) (w .read-word .ensures _ _ _) (k .read-count .ensures .0 _ _ (omega arith)) (b .read-count2 .ensures .0 _ _ (omega (arith, e))) (o .read-rows .ensures few (omega (arith, e)) marks) e (c .carry .ensures)
 
 pub read-constraints-spec : {M : Type 1} → statement M
-read-constraints-spec = tie.close (tie.spec (search needs) (search needs) (search needs) (search needs) (search needs)
-    (search needs) (search needs) (search needs) (search needs) (search needs) (search needs) returns)
+read-constraints-spec = tie.close (tie.spec (λ c. search needs) (λ c. search needs) (λ c. search needs) (λ c. search needs)
+    (λ c. search needs) (λ c. search needs) (λ c. search needs) (λ c. search needs) (λ c. search needs) (λ c. search needs)
+    (λ c. search needs) returns)

@@ -78,6 +78,6 @@ returns-3 c =
     (record { is = λ room q. looping-done (l .loop .inv .0 vs rs small) (c .loop-test .left) (λ l m. tt) room })
 
 pub read-indices-spec : {M : Type 1} → statement M
-read-indices-spec = tie.close (tie.spec Inv-loop μ-loop (search needs) (search needs) returns loop-holds (search needs)
-    (search needs) (search needs) (search needs) (search needs) returns-2 (search needs) (search needs) loop-again
-    (search needs) returns-3)
+read-indices-spec = tie.close (tie.spec Inv-loop μ-loop (λ c. search needs) (λ c. search needs) returns loop-holds
+    (λ c. search needs) (λ c. search needs) (λ c. search needs) (λ c. search needs) (λ c. search needs) returns-2
+    (λ c. search needs) (λ c. search needs) loop-again (λ c. search needs) returns-3)

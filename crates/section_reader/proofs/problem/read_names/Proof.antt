@@ -45,5 +45,6 @@ returns-3 c =
     (record { is = λ room q. looping-done (l .loop .inv ix vs rs) (c .loop-test .left) (λ k p. tt) room })
 
 pub read-names-spec : {M : Type 1} → statement M
-read-names-spec = tie.close (tie.spec Inv-loop μ-loop (search needs) (search needs) returns loop-holds (search needs)
-    (search needs) (search needs) returns-2 (search needs) (search needs) loop-again returns-3)
+read-names-spec = tie.close (tie.spec Inv-loop μ-loop (λ c. search needs) (λ c. search needs) returns loop-holds
+    (λ c. search needs) (λ c. search needs) (λ c. search needs) returns-2 (λ c. search needs) (λ c. search needs) loop-again
+    returns-3)

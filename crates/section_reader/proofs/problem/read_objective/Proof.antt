@@ -20,5 +20,6 @@ returns c =
     (ap (λ (m : ℕ). eqb m 1) (c .number-of2 .ensures)) (λ i. record { cell = v .before .cells-of .ensures i; number = v .values-of .ensures i; count = c .before .number-of .ensures i })
 
 pub read-objective-spec : {M : Type 1} → statement M
-read-objective-spec = tie.close (tie.spec (search needs) (search needs) (search needs) (search needs) (search needs)
-    (search needs) (search needs) (search needs) (search needs) (search needs) (search needs) returns)
+read-objective-spec = tie.close (tie.spec (λ c. search needs) (λ c. search needs) (λ c. search needs) (λ c. search needs)
+    (λ c. search needs) (λ c. search needs) (λ c. search needs) (λ c. search needs) (λ c. search needs) (λ c. search needs)
+    (λ c. search needs) returns)

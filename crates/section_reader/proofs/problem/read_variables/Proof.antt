@@ -15,5 +15,5 @@ returns c =
     λ vs rs. section-follows (w .read-word .ensures _ vs rs) (counted-follows (λ x. refl) leads-always (k .read-count .ensures .0 vs rs (omega arith)) (n .read-names .ensures _ vs rs) (c .carry .ensures))
 
 pub read-variables-spec : {M : Type 1} → statement M
-read-variables-spec = tie.close (tie.spec (search needs) (search needs) (search needs) (search needs) (search needs)
-    (search needs) returns)
+read-variables-spec = tie.close (tie.spec (λ c. search needs) (λ c. search needs) (λ c. search needs) (λ c. search needs)
+    (λ c. search needs) (λ c. search needs) returns)

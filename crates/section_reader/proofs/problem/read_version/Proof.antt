@@ -11,4 +11,4 @@ returns c =
     λ ix vs rs. view-follows (λ a n t. tt) (then-follows (λ a n t. refl) leads-always (w .read-word .ensures ix vs rs) (c .read-word2 .ensures ix vs rs))
 
 pub read-version-spec : {M : Type 1} → statement M
-read-version-spec = tie.close (tie.spec (search needs) (search needs) (search needs) (search needs) returns)
+read-version-spec = tie.close (tie.spec (λ c. search needs) (λ c. search needs) (λ c. search needs) (λ c. search needs) returns)

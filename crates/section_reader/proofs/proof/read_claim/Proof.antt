@@ -14,4 +14,4 @@ returns c =
     λ rs. view-follows (λ a n t. tt) (then-each infeasWord leads-ends (follows-where (λ n x q. tt) (w .read-claim-word .ensures .0 _ rs)) (λ a t. e .read-ends .ensures a rs t))
 
 pub read-claim-spec : {M : Type 1} → statement M
-read-claim-spec = tie.close (tie.spec (search needs) (search needs) (search needs) (search needs) returns)
+read-claim-spec = tie.close (tie.spec (λ c. search needs) (λ c. search needs) (λ c. search needs) (λ c. search needs) returns)

@@ -19,5 +19,6 @@ returns c =
     derivations-follows (s .n) (s .m) (namesIn (s .text .now) (slice 0 (4 * s .m) (s .rows .now))) _ (p .read-placed .ensures _ _ _) (k .read-count .ensures .0 _ _ (omega (arith, l .rows-left .ensures))) (d .read-derivations .ensures few fits) (l .rows-left .ensures) (c .before .number-of .ensures) (c .carry .ensures)
 
 pub read-derivations-spec : {M : Type 1} → statement M
-read-derivations-spec = tie.close (tie.spec (search needs) (search needs) (search needs) (search needs) (search needs)
-    (search needs) (search needs) (search needs) (search needs) (search needs) (search needs) returns)
+read-derivations-spec = tie.close (tie.spec (λ c. search needs) (λ c. search needs) (λ c. search needs) (λ c. search needs)
+    (λ c. search needs) (λ c. search needs) (λ c. search needs) (λ c. search needs) (λ c. search needs) (λ c. search needs)
+    (λ c. search needs) returns)

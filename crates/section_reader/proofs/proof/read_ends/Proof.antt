@@ -19,5 +19,5 @@ returns-3 c =
     λ w rs t. two-ends (i .before .before .s .given .1) (i .if1 .left) (l .read-end .ensures .0 rs) (u .read-end2 .ensures .0 rs) w t
 
 pub read-ends-spec : {M : Type 1} → statement M
-read-ends-spec = tie.close (tie.spec (search needs) (search needs) returns returns-2 (search needs) (search needs)
-    (search needs) (search needs) (search needs) (search needs) returns-3)
+read-ends-spec = tie.close (tie.spec (λ c. search needs) (λ c. search needs) returns returns-2 (λ c. search needs)
+    (λ c. search needs) (λ c. search needs) (λ c. search needs) (λ c. search needs) (λ c. search needs) returns-3)

@@ -12,5 +12,5 @@ returns c =
     λ rs. view-follows (λ x n t. t) (carry-follows (λ a n t. refl) (leads-value (λ n a. refl)) (p .read-placed .ensures _ _ rs) (l .read-claim .ensures rs) (c .carry .ensures))
 
 pub read-relation-spec : {M : Type 1} → statement M
-read-relation-spec = tie.close (tie.spec (search needs) (search needs) (search needs) (search needs) (search needs)
-    (search needs) returns)
+read-relation-spec = tie.close (tie.spec (λ c. search needs) (λ c. search needs) (λ c. search needs) (λ c. search needs)
+    (λ c. search needs) (λ c. search needs) returns)

@@ -13,5 +13,5 @@ returns c =
     λ before few same. solution-follows (s .args .n) before same (f .read-free-name .ensures .0 _ _ (omega (arith, s .pre))) (l .read-pair-list .ensures _ (omega (arith, few)))
 
 pub read-solution-spec : {M : Type 1} → statement M
-read-solution-spec = tie.close (tie.spec (search needs) (search needs) (search needs) (search needs) (search needs)
-    (search needs) returns)
+read-solution-spec = tie.close (tie.spec (λ c. search needs) (λ c. search needs) (λ c. search needs) (λ c. search needs)
+    (λ c. search needs) (λ c. search needs) returns)

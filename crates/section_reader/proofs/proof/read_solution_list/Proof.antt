@@ -72,6 +72,7 @@ returns-3 c =
     (record { is = λ room q. as-many (l .before .before .s .given .1) (l .before .before .before .before .count-of .ensures) q (looping-done (l .loop .inv .0 few) (c .loop-test .left) (λ l m. tt) room) })
 
 pub read-solution-list-spec : {M : Type 1} → statement M
-read-solution-list-spec = tie.close (tie.spec Inv-loop μ-loop (search needs) (search needs) (search needs) returns loop-holds
-    (search needs) (search needs) (search needs) (search needs) (search needs) (search needs) returns-2 (search needs)
-    (search needs) loop-again (search needs) (search needs) (search needs) returns-3)
+read-solution-list-spec = tie.close (tie.spec Inv-loop μ-loop (λ c. search needs) (λ c. search needs) (λ c. search needs)
+    returns loop-holds (λ c. search needs) (λ c. search needs) (λ c. search needs) (λ c. search needs) (λ c. search needs)
+    (λ c. search needs) returns-2 (λ c. search needs) (λ c. search needs) loop-again (λ c. search needs) (λ c. search needs)
+    (λ c. search needs) returns-3)

@@ -14,5 +14,5 @@ returns c =
     λ few. section-follows (w .read-word .ensures _ _ _) (counted-follows (λ x. refl) leads-most (k .read-count .ensures .0 _ _ (omega arith)) (l .read-solution-list .ensures few) (c .carry .ensures))
 
 pub read-solutions-spec : {M : Type 1} → statement M
-read-solutions-spec = tie.close (tie.spec (search needs) (search needs) (search needs) (search needs) (search needs)
-    (search needs) (search needs) (search needs) returns)
+read-solutions-spec = tie.close (tie.spec (λ c. search needs) (λ c. search needs) (λ c. search needs) (λ c. search needs)
+    (λ c. search needs) (λ c. search needs) (λ c. search needs) (λ c. search needs) returns)

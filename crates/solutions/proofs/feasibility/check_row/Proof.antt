@@ -36,4 +36,5 @@ returns-3 : tie.Need-returns-3
 returns-3 c = tested (c .before) (c .if1 .left)
 
 pub check-row-spec : {M : Type 1} → statement M
-check-row-spec = tie.close (tie.spec (search needs) (search needs) (search needs) returns (search needs) returns-2 returns-3)
+check-row-spec = tie.close (tie.spec (λ c. search needs) (λ c. search needs) (λ c. search needs) returns (λ c. search needs)
+    returns-2 returns-3)

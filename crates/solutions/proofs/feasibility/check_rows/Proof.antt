@@ -51,5 +51,5 @@ returns-2 : tie.Need-returns-2 Inv-loop μ-loop
 returns-2 c = λ tree s e p at. checking-end (checkRow tree s) (tree .constraints .rows) {r = c .before .loop .r} (omega (arith, c .loop-test .left, given-are e)) (c .before .loop .inv tree s e p at)
 
 pub check-rows-spec : {M : Type 1} → statement M
-check-rows-spec = tie.close (tie.spec Inv-loop μ-loop loop-holds (search needs) (search needs) (search needs) returns
-    (search needs) (search needs) loop-again returns-2)
+check-rows-spec = tie.close (tie.spec Inv-loop μ-loop loop-holds (λ c. search needs) (λ c. search needs) (λ c. search needs)
+    returns (λ c. search needs) (λ c. search needs) loop-again returns-2)

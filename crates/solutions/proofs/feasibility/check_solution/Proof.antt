@@ -52,5 +52,5 @@ returns-2 c =
     ∙ checked w (c .before .before .before .before .enum-told .given .1) tree e lt
 
 pub check-solution-spec : {M : Type 1} → statement M
-check-solution-spec = tie.close (tie.spec (search needs) (search needs) (search needs) (search needs) (search needs)
-    (search needs) returns (search needs) returns-2)
+check-solution-spec = tie.close (tie.spec (λ c. search needs) (λ c. search needs) (λ c. search needs) (λ c. search needs)
+    (λ c. search needs) (λ c. search needs) returns (λ c. search needs) returns-2)

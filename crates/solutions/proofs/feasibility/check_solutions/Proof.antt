@@ -47,5 +47,5 @@ returns-2 c =
     checking-end (checkSolution tree) (tree .solutions .solutions) {r = c .before .loop .j} (omega (arith, c .loop-test .left, solutions-are e)) (c .before .loop .inv tree e)
 
 pub check-solutions-spec : {M : Type 1} → statement M
-check-solutions-spec = tie.close (tie.spec Inv-loop μ-loop loop-holds (search needs) (search needs) (search needs) returns
-    (search needs) (search needs) loop-again returns-2)
+check-solutions-spec = tie.close (tie.spec Inv-loop μ-loop loop-holds (λ c. search needs) (λ c. search needs)
+    (λ c. search needs) returns (λ c. search needs) (λ c. search needs) loop-again returns-2)

@@ -50,5 +50,5 @@ returns-2 : tie.Need-returns-2 Inv-loop μ-loop
 returns-2 c = λ s p at. checking-end (wholeAt s) _ (c .loop-test .left) (c .before .loop .inv s p at)
 
 pub check-whole-spec : {M : Type 1} → statement M
-check-whole-spec = tie.close (tie.spec Inv-loop μ-loop loop-holds (search needs) (search needs) cast-v (search needs)
-    (search needs) returns (search needs) (search needs) loop-again returns-2)
+check-whole-spec = tie.close (tie.spec Inv-loop μ-loop loop-holds (λ c. search needs) (λ c. search needs) cast-v
+    (λ c. search needs) (λ c. search needs) returns (λ c. search needs) (λ c. search needs) loop-again returns-2)

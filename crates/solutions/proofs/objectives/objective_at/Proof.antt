@@ -14,4 +14,4 @@ returns c =
     c .left-at .ensures _ (solutionAt tree j) (objective tree) few (p .point-of .ensures _ _ few (e .solution j lt)) (e .objective-is) (e .formed .objective-formed)
 
 pub objective-at-spec : {M : Type 1} → statement M
-objective-at-spec = tie.close (tie.spec (search needs) (search needs) returns)
+objective-at-spec = tie.close (tie.spec (λ c. search needs) (λ c. search needs) returns)

@@ -55,5 +55,5 @@ returns-2 : tie.Need-returns-2 Inv-loop μ-loop
 returns-2 c = λ tree e f. worked-end tree _ (c .before .loop .inv tree e f) (omega (arith, c .loop-test .left, solutions-are e))
 
 pub objectives-of-spec : {M : Type 1} → statement M
-objectives-of-spec = tie.close (tie.spec Inv-loop μ-loop (search needs) loop-holds (search needs) (search needs) (search needs)
-    returns (search needs) add-j (search needs) loop-again returns-2)
+objectives-of-spec = tie.close (tie.spec Inv-loop μ-loop (λ c. search needs) loop-holds (λ c. search needs) (λ c. search needs)
+    (λ c. search needs) returns (λ c. search needs) add-j (λ c. search needs) loop-again returns-2)

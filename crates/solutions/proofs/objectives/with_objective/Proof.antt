@@ -18,4 +18,4 @@ returns-2 c =
     best-with d os e (k .holds2 .ensures) (k .before .before .holds .ensures) false (c .if1 .left)
 
 pub with-objective-spec : {M : Type 1} → statement M
-with-objective-spec = tie.close (tie.spec (search needs) (search needs) returns returns-2)
+with-objective-spec = tie.close (tie.spec (λ c. search needs) (λ c. search needs) returns returns-2)

@@ -15,4 +15,4 @@ returns c =
     ∙ ap (leftSide (s .name .place) (s .values .terms)) q
 
 pub left-at-spec : {M : Type 1} → statement M
-left-at-spec = tie.close (tie.spec (search needs) (search needs) (search needs) returns)
+left-at-spec = tie.close (tie.spec (λ c. search needs) (λ c. search needs) (λ c. search needs) returns)

@@ -24,4 +24,4 @@ returns c =
     record { values-are = e; fractions = subst AreFractions (sym e) (fractions-in 256 (s .values .terms) below) }
 
 pub point-of-spec : {M : Type 1} → statement M
-point-of-spec = tie.close (tie.spec (search needs) (search needs) (search needs) (search needs) returns)
+point-of-spec = tie.close (tie.spec (λ c. search needs) (λ c. search needs) (λ c. search needs) (λ c. search needs) returns)

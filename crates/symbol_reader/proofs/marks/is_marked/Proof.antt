@@ -12,4 +12,4 @@ returns-2 : tie.Need-returns-2
 returns-2 c = refl
 
 pub is-marked-spec : {M : Type 1} → statement M
-is-marked-spec = tie.close (tie.spec returns (search needs) (search needs) (search needs) returns-2)
+is-marked-spec = tie.close (tie.spec returns (λ c. search needs) (λ c. search needs) (λ c. search needs) returns-2)

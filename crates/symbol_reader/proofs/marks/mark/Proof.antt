@@ -17,5 +17,5 @@ returns-2 c =
     ((λ k h. marked-more (a .words .now) (a .n) (c .union .result) (s .single .result) (i .if1 .left) (c .union .ensures) (s .single .ensures) k), length-set (a .words .now) _ (c .union .result))
 
 pub mark-spec : {M : Type 1} → statement M
-mark-spec = tie.close (tie.spec returns (search needs) (search needs) (search needs) (search needs) (search needs)
-    (search needs) (search needs) returns-2)
+mark-spec = tie.close (tie.spec returns (λ c. search needs) (λ c. search needs) (λ c. search needs) (λ c. search needs)
+    (λ c. search needs) (λ c. search needs) (λ c. search needs) returns-2)

@@ -14,4 +14,5 @@ returns-2 c =
     (given-by (m .before .before .before .s .given .1) (m .mark .ensures .0), m .mark .ensures .1)
 
 pub mark-answer-spec : {M : Type 1} → statement M
-mark-answer-spec = tie.close (tie.spec (search needs) (search needs) returns (search needs) (search needs) returns-2)
+mark-answer-spec = tie.close (tie.spec (λ c. search needs) (λ c. search needs) returns (λ c. search needs) (λ c. search needs)
+    returns-2)

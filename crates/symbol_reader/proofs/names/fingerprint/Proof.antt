@@ -43,5 +43,5 @@ returns : tie.Need-returns Inv-loop μ-loop
 returns c = all-done (c .before .loop .inv .0) (omega arith)
 
 pub fingerprint-spec : {M : Type 1} → statement M
-fingerprint-spec = tie.close (tie.spec Inv-loop μ-loop loop-holds (search needs) (search needs) cast-n add-n (search needs)
-    (search needs) loop-again (search needs) returns)
+fingerprint-spec = tie.close (tie.spec Inv-loop μ-loop loop-holds (λ c. search needs) (λ c. search needs) cast-n add-n
+    (λ c. search needs) (λ c. search needs) loop-again (λ c. search needs) returns)

@@ -41,5 +41,5 @@ returns-3 : tie.Need-returns-3 Inv-loop μ-loop
 returns-3 c = all-done (c .before .loop .inv) (omega arith)
 
 pub is-name-spec : {M : Type 1} → statement M
-is-name-spec = tie.close (tie.spec Inv-loop μ-loop loop-holds (search needs) returns returns-2 (search needs) (search needs)
-    loop-again returns-3)
+is-name-spec = tie.close (tie.spec Inv-loop μ-loop loop-holds (λ c. search needs) returns returns-2 (λ c. search needs)
+    (λ c. search needs) loop-again returns-3)

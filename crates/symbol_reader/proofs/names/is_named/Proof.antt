@@ -61,5 +61,5 @@ returns-2 c = all-done (c .before .loop .inv) (omega arith)
 
 pub is-named-spec : {M : Type 1} → statement M
 is-named-spec = tie.close (tie.spec Inv-loop μ-loop loop-holds (λ c. omega arith) (λ c. omega arith) (λ c. omega arith) cast-p
-    (λ c. omega arith) (λ c. omega arith) (λ c. omega arith) (λ c. omega arith) cast-l add-part (search needs) (search needs)
-    returns (search needs) (search needs) loop-again returns-2)
+    (λ c. omega arith) (λ c. omega arith) (λ c. omega arith) (λ c. omega arith) cast-l add-part (λ c. search needs)
+    (λ c. search needs) returns (λ c. search needs) (λ c. search needs) loop-again returns-2)

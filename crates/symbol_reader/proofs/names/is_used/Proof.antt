@@ -34,4 +34,5 @@ returns-2 c =
     sym (none-of-them (tokenAt (s .text .now) (s .t) .bytes) prints (ap (marked (s .prints .now)) (sym (w .wide .ensures ∙ print)) ∙ sym (m .is-marked .ensures) ∙ c .if1 .left))
 
 pub is-used-spec : {M : Type 1} → statement M
-is-used-spec = tie.close (tie.spec (search needs) (search needs) (search needs) is-named-requires returns returns-2)
+is-used-spec = tie.close (tie.spec (λ c. search needs) (λ c. search needs) (λ c. search needs) is-named-requires returns
+    returns-2)

@@ -11,4 +11,4 @@ returns-2 : tie.Need-returns-2
 returns-2 c = let e = sym (c .before .is-name .ensures) ∙ c .if1 .left in (record { is = rw e refl }, λ row. record { is = rw e refl })
 
 pub name-in-spec : {M : Type 1} → statement M
-name-in-spec = tie.close (tie.spec (search needs) returns returns-2)
+name-in-spec = tie.close (tie.spec (λ c. search needs) returns returns-2)

@@ -24,4 +24,5 @@ returns c =
     )
 
 pub read-free-name-spec : {M : Type 1} → statement M
-read-free-name-spec = tie.close (tie.spec (search needs) name-in-requires (search needs) (search needs) (search needs) returns)
+read-free-name-spec = tie.close (tie.spec (λ c. search needs) name-in-requires (λ c. search needs) (λ c. search needs)
+    (λ c. search needs) returns)

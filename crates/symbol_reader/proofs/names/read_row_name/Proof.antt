@@ -36,5 +36,5 @@ returns c =
     )
 
 pub read-row-name-spec : {M : Type 1} → statement M
-read-row-name-spec = tie.close (tie.spec (search needs) row-name-in-requires (search needs) (search needs) (search needs)
-    (search needs) (search needs) returns)
+read-row-name-spec = tie.close (tie.spec (λ c. search needs) row-name-in-requires (λ c. search needs) (λ c. search needs)
+    (λ c. search needs) (λ c. search needs) (λ c. search needs) returns)

@@ -49,4 +49,5 @@ returns-3 c =
     name-taken (s .args .row) (used s) print (here s) (sym (i .before .is-name .ensures) ∙ not-false _ (i .if1 .left)) (sym (u .is-used .ensures e prints) ∙ c .if2 .left) (sym e)
 
 pub row-name-in-spec : {M : Type 1} → statement M
-row-name-in-spec = tie.close (tie.spec (search needs) returns (search needs) (search needs) (search needs) returns-2 returns-3)
+row-name-in-spec = tie.close (tie.spec (λ c. search needs) returns (λ c. search needs) (λ c. search needs) (λ c. search needs)
+    returns-2 returns-3)

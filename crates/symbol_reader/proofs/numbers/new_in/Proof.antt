@@ -40,5 +40,5 @@ returns-3 c =
     new-taken (s .bound) used t h (sym (marks .are _ (omega (arith, number-below (s .bound) used t h, fits))) ∙ ap (marked (s .seen .now)) (sym (w .wide .ensures)) ∙ sym (i .is-marked .ensures) ∙ c .if1 .left)
 
 pub new-in-spec : {M : Type 1} → statement M
-new-in-spec = tie.close (tie.spec (search needs) (search needs) (search needs) returns (search needs) (search needs) returns-2
-    returns-3)
+new-in-spec = tie.close (tie.spec (λ c. search needs) (λ c. search needs) (λ c. search needs) returns (λ c. search needs)
+    (λ c. search needs) returns-2 returns-3)

@@ -29,4 +29,5 @@ returns-3 c =
     number-taken (s .args .bound) (s .args .text .now) (s .args .t) (s .pre) filled small (sym (p .spelled .ensures) ∙ m .m .given .1) (omega (arith, c .before .wide .ensures, c .if1 .left))
 
 pub number-in-spec : {M : Type 1} → statement M
-number-in-spec = tie.close (tie.spec (search needs) (search needs) (search needs) returns (search needs) returns-2 returns-3)
+number-in-spec = tie.close (tie.spec (λ c. search needs) (λ c. search needs) (λ c. search needs) returns (λ c. search needs)
+    returns-2 returns-3)

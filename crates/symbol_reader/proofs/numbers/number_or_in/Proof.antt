@@ -22,4 +22,4 @@ returns-2 c =
     or-given (s .args .word .now) (s .args .cell) (number (s .args .bound) []) (λ n. n) (tokenAt (s .args .text .now) (s .args .t)) (sym (e .before .is-word .ensures) ∙ e .if1 .left) (c .number-in .ensures filled small)
 
 pub number-or-in-spec : {M : Type 1} → statement M
-number-or-in-spec = tie.close (tie.spec (search needs) returns (search needs) returns-2)
+number-or-in-spec = tie.close (tie.spec (λ c. search needs) returns (λ c. search needs) returns-2)

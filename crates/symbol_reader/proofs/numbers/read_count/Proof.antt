@@ -25,4 +25,4 @@ returns c =
     )
 
 pub read-count-spec : {M : Type 1} → statement M
-read-count-spec = tie.close (tie.spec (search needs) (search needs) (search needs) returns)
+read-count-spec = tie.close (tie.spec (λ c. search needs) (λ c. search needs) (λ c. search needs) returns)

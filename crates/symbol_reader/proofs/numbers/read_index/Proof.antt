@@ -29,4 +29,5 @@ returns c =
     )
 
 pub read-index-spec : {M : Type 1} → statement M
-read-index-spec = tie.close (tie.spec (search needs) number-in-requires passed-requires (search needs) (search needs) returns)
+read-index-spec = tie.close (tie.spec (λ c. search needs) number-in-requires passed-requires (λ c. search needs)
+    (λ c. search needs) returns)

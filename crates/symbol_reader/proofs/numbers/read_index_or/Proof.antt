@@ -41,4 +41,5 @@ returns c =
     )
 
 pub read-index-or-spec : {M : Type 1} → statement M
-read-index-or-spec = tie.close (tie.spec (search needs) (search needs) (search needs) (search needs) (search needs) returns)
+read-index-or-spec = tie.close (tie.spec (λ c. search needs) (λ c. search needs) (λ c. search needs) (λ c. search needs)
+    (λ c. search needs) returns)

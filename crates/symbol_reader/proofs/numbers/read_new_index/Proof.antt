@@ -26,5 +26,5 @@ returns c =
     )
 
 pub read-new-index-spec : {M : Type 1} → statement M
-read-new-index-spec = tie.close (tie.spec (search needs) (search needs) (search needs) (search needs) (search needs)
-    (search needs) (search needs) returns)
+read-new-index-spec = tie.close (tie.spec (λ c. search needs) (λ c. search needs) (λ c. search needs) (λ c. search needs)
+    (λ c. search needs) (λ c. search needs) (λ c. search needs) returns)

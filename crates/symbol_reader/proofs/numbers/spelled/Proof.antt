@@ -50,5 +50,6 @@ returns-3 c =
     ap Number e ∙ all-done (l .inv .1) (omega arith)
 
 pub spelled-spec : {M : Type 1} → statement M
-spelled-spec = tie.close (tie.spec Inv-loop μ-loop loop-holds (search needs) returns returns-2 (λ c. omega arith)
-    (λ c. omega arith) (λ c. omega arith) (search needs) (search needs) (search needs) loop-again (λ c. omega arith) returns-3)
+spelled-spec = tie.close (tie.spec Inv-loop μ-loop loop-holds (λ c. search needs) returns returns-2 (λ c. omega arith)
+    (λ c. omega arith) (λ c. omega arith) (λ c. search needs) (λ c. search needs) (λ c. search needs) loop-again
+    (λ c. omega arith) returns-3)

@@ -32,5 +32,6 @@ returns-4 c =
     (record { goes = λ h. (refl, rw (l .low .ensures (h .1), w .store-value .ensures) refl); stays = λ h. absurd (⊎-elim (λ k. omega (arith, k, i .before .if1 .left)) (λ k. omega (arith, k, i .if2 .left)) h) })
 
 pub ended-spec : {M : Type 1} → statement M
-ended-spec = tie.close (tie.spec (search needs) (search needs) returns returns-2 returns-3 (search needs) (search needs)
-    (search needs) store-value-requires (search needs) (search needs) (search needs) (search needs) returns-4)
+ended-spec = tie.close (tie.spec (λ c. search needs) (λ c. search needs) returns returns-2 returns-3 (λ c. search needs)
+    (λ c. search needs) (λ c. search needs) store-value-requires (λ c. search needs) (λ c. search needs) (λ c. search needs)
+    (λ c. search needs) returns-4)

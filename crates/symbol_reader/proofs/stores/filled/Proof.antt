@@ -20,5 +20,5 @@ returns-3 c =
     (record { goes = λ h. (refl, rw (c .low .ensures (h .1))); stays = λ h. absurd (omega (arith, h, c .before .if1 .left)) })
 
 pub filled-spec : {M : Type 1} → statement M
-filled-spec = tie.close (tie.spec (search needs) (search needs) returns returns-2 (search needs) (search needs) (search needs)
-    (search needs) (search needs) returns-3)
+filled-spec = tie.close (tie.spec (λ c. search needs) (λ c. search needs) returns returns-2 (λ c. search needs)
+    (λ c. search needs) (λ c. search needs) (λ c. search needs) (λ c. search needs) returns-3)

@@ -26,5 +26,5 @@ returns-3 c =
     (record { goes = λ h. (refl, w .store-row .ensures (omega (arith, h .1)) (omega (arith, h .1)) (h .2) (h .3)); stays = λ h. absurd (omega (arith, h, i .if1 .left)) })
 
 pub rowed-spec : {M : Type 1} → statement M
-rowed-spec = tie.close (tie.spec (search needs) (search needs) returns returns-2 (search needs) store-row-requires
-    (search needs) returns-3)
+rowed-spec = tie.close (tie.spec (λ c. search needs) (λ c. search needs) returns returns-2 (λ c. search needs)
+    store-row-requires (λ c. search needs) returns-3)

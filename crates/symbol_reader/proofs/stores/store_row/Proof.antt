@@ -30,6 +30,7 @@ returns c =
     λ p s k v. rw (add-one n, two, three, e .before .low .ensures p, e .low2 .ensures s, d .low3 .ensures k, c .low4 .ensures v)
 
 pub store-row-spec : {M : Type 1} → statement M
-store-row-spec = tie.close (tie.spec (search needs) (search needs) (search needs) (search needs) (search needs) (search needs)
-    (search needs) slice-write-rows-2 (search needs) (search needs) (search needs) slice-write-rows-3 (search needs)
-    (search needs) (search needs) slice-write-rows-4 same-length returns)
+store-row-spec = tie.close (tie.spec (λ c. search needs) (λ c. search needs) (λ c. search needs) (λ c. search needs)
+    (λ c. search needs) (λ c. search needs) (λ c. search needs) slice-write-rows-2 (λ c. search needs) (λ c. search needs)
+    (λ c. search needs) slice-write-rows-3 (λ c. search needs) (λ c. search needs) (λ c. search needs) slice-write-rows-4
+    same-length returns)

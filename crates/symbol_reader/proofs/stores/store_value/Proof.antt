@@ -21,5 +21,5 @@ returns c =
     rw (add-one (2 * c .before .before .args .number), back-of (f .num) (g .0 .1), back-of (f .den) (g .1 .0 .1))
 
 pub store-value-spec : {M : Type 1} → statement M
-store-value-spec = tie.close (tie.spec (search needs) (search needs) (search needs) (search needs) (search needs)
-    slice-set-from-den same-length returns)
+store-value-spec = tie.close (tie.spec (λ c. search needs) (λ c. search needs) (λ c. search needs) (λ c. search needs)
+    (λ c. search needs) slice-set-from-den same-length returns)

@@ -25,5 +25,5 @@ returns-3 c =
     (record { goes = λ h. (refl, w .store-value .ensures); stays = λ h. absurd (omega (arith, h, i .if1 .left)) })
 
 pub valued-spec : {M : Type 1} → statement M
-valued-spec = tie.close (tie.spec (search needs) (search needs) returns returns-2 store-value-requires (search needs)
-    (search needs) returns-3)
+valued-spec = tie.close (tie.spec (λ c. search needs) (λ c. search needs) returns returns-2 store-value-requires
+    (λ c. search needs) (λ c. search needs) returns-3)

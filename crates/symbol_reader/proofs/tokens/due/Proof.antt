@@ -25,5 +25,5 @@ returns-3 c =
     record { first = given-by (a .given .1) (inl f); ordered = omega (arith, f .not-empty); inside = f .inside }
 
 pub due-spec : {M : Type 1} → statement M
-due-spec = tie.close (tie.spec (search needs) (search needs) returns (search needs) (search needs) (search needs) returns-2
-    returns-3)
+due-spec = tie.close (tie.spec (λ c. search needs) (λ c. search needs) returns (λ c. search needs) (λ c. search needs)
+    (λ c. search needs) returns-2 returns-3)

@@ -26,5 +26,5 @@ returns-4 c =
     ((λ h. absurd (omega (arith, d .if1 .left))), λ h. given-by (m .m2 .given .1) (rw (w .wide .ensures), omega arith))
 
 pub passed-spec : {M : Type 1} → statement M
-passed-spec = tie.close (tie.spec (search needs) (search needs) returns returns-2 (search needs) (search needs) (search needs)
-    (search needs) returns-3 returns-4)
+passed-spec = tie.close (tie.spec (λ c. search needs) (λ c. search needs) returns returns-2 (λ c. search needs)
+    (λ c. search needs) (λ c. search needs) (λ c. search needs) returns-3 returns-4)

@@ -22,4 +22,4 @@ returns-3 : tie.Need-returns-3
 returns-3 c = λ f h. none (sym (ap valueSays (c .enum-told2 .given .1)) ∙ h)
 
 pub fraction-of-spec : {M : Type 1} → statement M
-fraction-of-spec = tie.close (tie.spec (search needs) (search needs) (search needs) returns returns-2 returns-3)
+fraction-of-spec = tie.close (tie.spec (λ c. search needs) (λ c. search needs) (λ c. search needs) returns returns-2 returns-3)

@@ -14,4 +14,4 @@ returns-3 : tie.Need-returns-3
 returns-3 c = rw (c .enum-told3 .given .1) refl
 
 pub value-in-spec : {M : Type 1} → statement M
-value-in-spec = tie.close (tie.spec (search needs) (search needs) (search needs) returns returns-2 returns-3)
+value-in-spec = tie.close (tie.spec (λ c. search needs) (λ c. search needs) (λ c. search needs) returns returns-2 returns-3)

@@ -12,4 +12,4 @@ returns-2 : tie.Need-returns-2
 returns-2 c = given-by (c .before .s .given .1) refl
 
 pub at-place-spec : {M : Type 1} → statement M
-at-place-spec = tie.close (tie.spec (search needs) (search needs) returns returns-2)
+at-place-spec = tie.close (tie.spec (λ c. search needs) (λ c. search needs) returns returns-2)

@@ -18,4 +18,5 @@ returns-3 c =
     record { is = rw (sym (e1 .before .is-word .ensures) ∙ e1 .if1 .left, sym (c .before .is-word2 .ensures) ∙ c .if2 .left) refl }
 
 pub direction-in-spec : {M : Type 1} → statement M
-direction-in-spec = tie.close (tie.spec (search needs) (search needs) returns (search needs) (search needs) returns-2 returns-3)
+direction-in-spec = tie.close (tie.spec (λ c. search needs) (λ c. search needs) returns (λ c. search needs) (λ c. search needs)
+    returns-2 returns-3)

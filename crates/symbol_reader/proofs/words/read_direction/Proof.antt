@@ -14,4 +14,5 @@ returns c =
     ((λ vs rs. filled-follows t (λ a k e d. e) (λ a. refl) (λ a d. refl) (λ a i v. refl) (f .filled .ensures)), stored-refuses t (f .filled .ensures) (λ c found h. h) (λ e. e))
 
 pub read-direction-spec : {M : Type 1} → statement M
-read-direction-spec = tie.close (tie.spec (search needs) (search needs) (search needs) (search needs) (search needs) returns)
+read-direction-spec = tie.close (tie.spec (λ c. search needs) (λ c. search needs) (λ c. search needs) (λ c. search needs)
+    (λ c. search needs) returns)

@@ -15,4 +15,4 @@ returns c =
     placed-follows (tested (d .due .ensures) (λ filled. m .word-in .ensures .0) (p .passed .ensures)) (placed-at (d .before .before .before .args .word .now) (d .before .before .before .args .text .now) (d .due .result)) (λ a. refl) (λ a. refl) (λ a i v. refl) (c .at-place .ensures)
 
 pub read-placed-spec : {M : Type 1} → statement M
-read-placed-spec = tie.close (tie.spec (search needs) (search needs) (search needs) (search needs) returns)
+read-placed-spec = tie.close (tie.spec (λ c. search needs) (λ c. search needs) (λ c. search needs) (λ c. search needs) returns)

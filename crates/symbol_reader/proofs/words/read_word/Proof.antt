@@ -11,4 +11,4 @@ returns c =
     λ ix vs rs. passed-follows (tested (m .before .due .ensures) (λ filled. m .word-in .ensures .1) (c .passed .ensures)) (λ a. refl) (λ a. refl) (λ a i v. refl)
 
 pub read-word-spec : {M : Type 1} → statement M
-read-word-spec = tie.close (tie.spec (search needs) (search needs) (search needs) returns)
+read-word-spec = tie.close (tie.spec (λ c. search needs) (λ c. search needs) (λ c. search needs) returns)

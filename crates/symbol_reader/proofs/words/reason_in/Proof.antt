@@ -46,6 +46,6 @@ returns-7 c =
     record { is = rw (sym (e1 .before .is-word .ensures) ∙ e1 .if1 .left, sym (e2 .before .is-word2 .ensures) ∙ e2 .if3 .left, sym (e3 .before .is-word3 .ensures) ∙ e3 .if4 .left, sym (e4 .before .is-word4 .ensures) ∙ e4 .if5 .left, sym (c .before .is-word5 .ensures) ∙ c .if6 .left) refl }
 
 pub reason-in-spec : {M : Type 1} → statement M
-reason-in-spec = tie.close (tie.spec (search needs) (search needs) returns returns-2 (search needs) (search needs) returns-3
-    (search needs) (search needs) returns-4 (search needs) (search needs) returns-5 (search needs) (search needs) returns-6
-    returns-7)
+reason-in-spec = tie.close (tie.spec (λ c. search needs) (λ c. search needs) returns returns-2 (λ c. search needs)
+    (λ c. search needs) returns-3 (λ c. search needs) (λ c. search needs) returns-4 (λ c. search needs) (λ c. search needs)
+    returns-5 (λ c. search needs) (λ c. search needs) returns-6 returns-7)

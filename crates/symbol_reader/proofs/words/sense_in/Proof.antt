@@ -25,5 +25,5 @@ returns-4 c =
     record { is = rw (sym (e1 .before .is-word .ensures) ∙ e1 .if1 .left, sym (e2 .before .is-word2 .ensures) ∙ e2 .if2 .left, sym (c .before .is-word3 .ensures) ∙ c .if3 .left) refl }
 
 pub sense-in-spec : {M : Type 1} → statement M
-sense-in-spec = tie.close (tie.spec (search needs) (search needs) returns (search needs) (search needs) returns-2 (search needs)
-    (search needs) returns-3 returns-4)
+sense-in-spec = tie.close (tie.spec (λ c. search needs) (λ c. search needs) returns (λ c. search needs) (λ c. search needs)
+    returns-2 (λ c. search needs) (λ c. search needs) returns-3 returns-4)

@@ -11,4 +11,4 @@ returns-2 : tie.Need-returns-2
 returns-2 c = let e = sym (c .before .is-word .ensures) ∙ c .if1 .left in (record { is = rw e refl }, record { is = rw e refl })
 
 pub word-in-spec : {M : Type 1} → statement M
-word-in-spec = tie.close (tie.spec (search needs) returns returns-2)
+word-in-spec = tie.close (tie.spec (λ c. search needs) returns returns-2)

@@ -28,4 +28,4 @@ returns-2 : tie.Need-returns-2
 returns-2 c = appended-narrow _ _ _ _ (c .before .power-of-ten .ensures) (c .before .before .if1 .left) (at-start c .pre .1) (at-start c .pre .2)
 
 pub appended-spec : {M : Type 1} → statement M
-appended-spec = tie.close (tie.spec (λ c. omega arith) returns (search needs) mul-t7 add-t8 returns-2)
+appended-spec = tie.close (tie.spec (λ c. omega arith) returns (λ c. search needs) mul-t7 add-t8 returns-2)

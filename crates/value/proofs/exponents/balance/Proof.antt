@@ -19,4 +19,5 @@ returns-3 : tie.Need-returns-3
 returns-3 c = λ n s. balance-more _ _ _ n s (c .before .before .if1 .left) (c .before .if2 .left) (c .difference2 .result) (c .difference2 .ensures)
 
 pub balance-spec : {M : Type 1} → statement M
-balance-spec = tie.close (tie.spec (λ c. omega arith) (search needs) returns returns-2 add-difference (search needs) returns-3)
+balance-spec = tie.close (tie.spec (λ c. omega arith) (λ c. search needs) returns returns-2 add-difference (λ c. search needs)
+    returns-3)

@@ -17,4 +17,4 @@ returns-3 : tie.Need-returns-3
 returns-3 c = λ z h. opposite-outside z (subst (PowerIs z) (c .enum-told .given .1) h)
 
 pub opposite-spec : {M : Type 1} → statement M
-opposite-spec = tie.close (tie.spec (search needs) (search needs) (search needs) returns returns-2 returns-3)
+opposite-spec = tie.close (tie.spec (λ c. search needs) (λ c. search needs) (λ c. search needs) returns returns-2 returns-3)

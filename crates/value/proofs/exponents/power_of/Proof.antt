@@ -28,4 +28,4 @@ returns-2 c =
     (subst (λ (z : ℤ). PowerIs z (c .balance2 .result)) (power-raised n (a .places) (a .zeros)) (c .balance2 .ensures n s))
 
 pub power-of-spec : {M : Type 1} → statement M
-power-of-spec = tie.close (tie.spec balance-requires (search needs) balance-requires-2 returns returns-2)
+power-of-spec = tie.close (tie.spec balance-requires (λ c. search needs) balance-requires-2 returns returns-2)

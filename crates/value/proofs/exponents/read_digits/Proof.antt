@@ -56,5 +56,5 @@ returns-3 : tie.Need-returns-3 Inv-loop μ-loop
 returns-3 c = counting-ends _ _ _ _ (c .before .loop .inv) (c .loop-test .left) (c .before .before .if1 .left) _
 
 pub read-digits-spec : {M : Type 1} → statement M
-read-digits-spec = tie.close (tie.spec Inv-loop μ-loop returns loop-holds (λ c. omega arith) (search needs) sub-with-digit
+read-digits-spec = tie.close (tie.spec Inv-loop μ-loop returns loop-holds (λ c. omega arith) (λ c. search needs) sub-with-digit
     cast-with-digit with-digit-requires (λ c. omega arith) (λ c. omega arith) loop-again returns-2 returns-3)

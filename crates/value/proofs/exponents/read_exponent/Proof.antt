@@ -20,5 +20,5 @@ returns-4 c =
     unsigned-read _ _ (c .before .before .before .before .if1 .left) (c .before .before .if2 .left) (c .before .if3 .left) (c .read-digits3 .result) (c .read-digits3 .ensures)
 
 pub read-exponent-spec : {M : Type 1} → statement M
-read-exponent-spec = tie.close (tie.spec returns (search needs) (λ c. omega arith) (search needs) returns-2 (λ c. omega arith)
-    (search needs) returns-3 (search needs) returns-4)
+read-exponent-spec = tie.close (tie.spec returns (λ c. search needs) (λ c. omega arith) (λ c. search needs) returns-2
+    (λ c. omega arith) (λ c. search needs) returns-3 (λ c. search needs) returns-4)

@@ -32,4 +32,4 @@ unfolding dominates sameCoefficients
 returns-3 c = λ n coefficient row h v w. and-no _ (h .same) (c .if3 .left) ∙ or-no _ (not-absurd (c .before) n coefficient row h) refl
 
 pub dominates-spec : {M : Type 1} → statement M
-dominates-spec = tie.close (tie.spec (search needs) returns (search needs) returns-2 returns-3)
+dominates-spec = tie.close (tie.spec (λ c. search needs) returns (λ c. search needs) returns-2 returns-3)

@@ -22,4 +22,4 @@ returns c =
     (at-most-zero (toZ w64 (ofZ w64 (m .result))) ∙ ap (λ (z : ℤ). not (ltZ (pos 0) z)) n)
 
 pub next-spec : {M : Type 1} → statement M
-next-spec = tie.close (tie.spec (search needs) returns)
+next-spec = tie.close (tie.spec (λ c. search needs) returns)
