@@ -14,7 +14,7 @@ use Rattle.text.specs.Bytes.{same, isNumeral, numberOf}
 use Rattle.text.specs.BytesLaws.{same-true, same-refl}
 use Rattle.text.specs.Tokens.{Token, Stream, end, token, join}
 use Rattle.arithmetic.specs.Outcome.{Outcome, gives, refuses}
-use Rattle.value.specs.Agreement.{value-read}
+use Rattle.numerals.proofs.Agreement.{value-read}
 use Rattle.grammar.specs.Format.{Or, instead, given, Symbol, word, placed, choice, number, name, rowName, value, or, Format, symbol, then, items, nothing, view}
 use Rattle.grammar.specs.Spelling.{isAmong, meaningOf, isName, OrSpelled, SymbolSpelled, ItemsSpelled, Spells}
 use Rattle.grammar.specs.Reading.{unless, chosen, orElse, decode, Read, got, stopped, onward, kept, readSymbol, readItems, read}

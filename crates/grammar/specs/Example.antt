@@ -15,8 +15,8 @@ use Rattle.tables.specs.Limits.{indexCells, valueCells, rowCells}
 use Rattle.arithmetic.specs.Quotient.{lowest}
 use Rattle.arithmetic.specs.declared.Fraction.{Fraction}
 use Rattle.integers.specs.Gcd.{gcd, euclid}
-use Rattle.value.specs.Spelling.{quotientOf}
-use Rattle.value.specs.Reading.{readValue, outcomeOf, narrowed}
+use Rattle.numerals.specs.Spelling.{quotientOf}
+use Rattle.numerals.specs.Reading.{readValue, outcomeOf, narrowed}
 use Rattle.grammar.specs.Tree.{Tree, TermList, maximize, atMost, obj, listed, finite, range, rnd, never}
 use Rattle.grammar.specs.Reading.{read}
 use Rattle.grammar.specs.Layout.{gather, marks}

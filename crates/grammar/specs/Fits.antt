@@ -17,8 +17,8 @@ use Rattle.tables.specs.Limits.{indexCells, valueCells, rowCells, mostVariables
 use Rattle.tables.specs.Words as cell
 use Rattle.arithmetic.specs.Fraction.{IsFraction}
 use Rattle.arithmetic.specs.declared.Fraction.{Fraction}
-use Rattle.value.specs.Spelling.{SpellsValue}
-use Rattle.value.specs.Agreement.{value-read}
+use Rattle.numerals.specs.Spelling.{SpellsValue}
+use Rattle.numerals.proofs.Agreement.{value-read}
 use Rattle.grammar.specs.Tree.{Tree, Sense, Direction, Constraints, Solution}
 use Rattle.grammar.specs.Format.{Word, Or, instead, given, Symbol, word, placed, choice, number, name, rowName, value, or, Format, symbol, then, items, nothing, view}
 use Rattle.grammar.specs.Spelling.{SymbolSpelled, ItemsSpelled, Spells}

@@ -9,7 +9,7 @@ use lib.Dec.{ltb, eqb}
 use Rattle.text.specs.Bytes.{same, isNumeral, numberOf}
 use Rattle.text.specs.Tokens.{Token, Stream, end, token}
 use Rattle.arithmetic.specs.Outcome.{Outcome, gives, refuses}
-use Rattle.value.specs.Reading.{readValue}
+use Rattle.numerals.specs.Reading.{readValue}
 use Rattle.grammar.specs.Format.{Or, instead, given, Symbol, word, placed, choice, number, name, rowName, value, or, Format, symbol, then, items, nothing, view}
 use Rattle.grammar.specs.Spelling.{isAmong, meaningOf, isName}
 

@@ -10,7 +10,7 @@ use lib.Dec.{eqb}
 use lib.ListN.{length}
 use Rattle.text.specs.Bytes.{Bytes, same, every, isPrintable, isNumeral, numberOf}
 use Rattle.text.specs.Tokens.{Token}
-use Rattle.value.specs.Spelling.{SpellsValue}
+use Rattle.numerals.specs.Spelling.{SpellsValue}
 use Rattle.grammar.specs.Format.{Word, Or, instead, given, Symbol, word, placed, choice, number, name, rowName, value, or, Format, symbol, then, items, nothing, view}
 
 -- x is one of these, by a test of two

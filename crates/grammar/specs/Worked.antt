@@ -12,8 +12,8 @@ use Rattle.text.specs.Tokens.{rest, streamAt}
 use Rattle.text.specs.Lines.{lineOf}
 use Rattle.arithmetic.specs.Quotient.{lowest}
 use Rattle.integers.specs.Gcd.{gcd, euclid}
-use Rattle.value.specs.Spelling.{quotientOf}
-use Rattle.value.specs.Reading.{readValue, outcomeOf, narrowed}
+use Rattle.numerals.specs.Spelling.{quotientOf}
+use Rattle.numerals.specs.Reading.{readValue, outcomeOf, narrowed}
 use Rattle.grammar.specs.Certificate.{certificate}
 use Rattle.grammar.specs.Reading.{read}
 use Rattle.grammar.specs.Layout.{Mark, gather, cells, marks}

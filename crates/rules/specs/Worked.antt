@@ -13,8 +13,8 @@ use Rattle.text.specs.Lines.{lineOf}
 use Rattle.arithmetic.specs.Quotient.{lowest, floorZ, ceilingZ}
 use Rattle.arithmetic.specs.Fraction.{isFraction, onFractions, within, order}
 use Rattle.integers.specs.Gcd.{gcd, euclid}
-use Rattle.value.specs.Spelling.{quotientOf}
-use Rattle.value.specs.Reading.{readValue, outcomeOf, narrowed}
+use Rattle.numerals.specs.Spelling.{quotientOf}
+use Rattle.numerals.specs.Reading.{readValue, outcomeOf, narrowed}
 use Rattle.grammar.specs.Reading.{read}
 use Rattle.grammar.specs.Texts.{ReadText, taken, refused as stopped, readOf}
 use Rattle.rules.specs.Result.{Result, done, Verdict}

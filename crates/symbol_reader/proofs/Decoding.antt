@@ -3,7 +3,7 @@
 use mathlib.Core.Path.{_≡_, refl, sym, ap, _∙_, subst}
 use mathlib.Core.Bool.{Bool, true, false, not, cond}
 use mathlib.Core.List.{List, [], _∷_}
-use Prim.Native.Nat.{ℕ, _≤_, _<_, min}
+use Prim.Native.Nat.{ℕ, suc, _≤_, _<_, min}
 use native.Mathlib.Omega.{arith}
 use borrow.Author.Tests.{lt-ltb, le-ltb, ltb-true}
 use lib.Dec.{ltb, eqb}
@@ -14,7 +14,7 @@ use Rattle.text.specs.BytesLaws.{clash}
 use Rattle.text.specs.Tokens.{Token}
 use Rattle.arithmetic.specs.Outcome.{Outcome, gives, refuses}
 use Rattle.arithmetic.specs.declared.Fraction.{Fraction}
-use Rattle.value.specs.Reading.{readValue}
+use Rattle.numerals.specs.Reading.{readValue}
 use Rattle.value.specs.Promise.{valueSays}
 use Rattle.value.specs.declared.ValueAnswer.{ValueAnswer}
 use Rattle.grammar.specs.Format.{Or, instead, given, Symbol, number, placed, rowName, value, or}
@@ -23,8 +23,9 @@ use Rattle.grammar.specs.Reading.{unless, orElse, decode}
 use Rattle.grammar.specs.Layout.{symbolValues, symbolMarks}
 use Rattle.grammar.specs.declared.Refusal.{Refusal}
 use Rattle.grammar.specs.declared.Refusal.the-variants.{WrongKind, OutOfRange, UsedBefore}
+use Rattle.tables.specs.Limits.{largest}
 use Rattle.symbol_reader.specs.Follows.{cellOr}
-use Rattle.symbol_reader.specs.Leaves.{most, numeralOf, tokenAt, orCell, Said, Means}
+use Rattle.symbol_reader.specs.Leaves.{numeralOf, boundOf, tokenAt, orCell, Said, Means}
 use Rattle.symbol_reader.specs.declared.tokens.Span.{Span}
 use Rattle.symbol_reader.specs.declared.tokens.Meaning.{Meaning}
 use Rattle.symbol_reader.specs.declared.tokens.Meaning.the-variants as meaning
@@ -43,17 +44,24 @@ numeral-some : (w : Bytes) → 0 < length w → isNumeral w ≡ every isDigit w
 numeral-some [] h = absurd (omega arith)
 numeral-some (b ∷ w) h = refl
 
-spelled-digits : (w : Bytes) (n : ℕ) → numeralOf w ≡ Number n → (every isDigit w ≡ true) × (min (numberOf w) most ≡ n)
+-- the bound of a count: within what a cell holds, and beyond
+pub bound-within : (n : ℕ) → n < largest → boundOf n ≡ suc n
+bound-within n h = rw (lt-ltb n largest h)
+
+pub bound-beyond : (n : ℕ) → largest ≤ n → boundOf n ≡ largest
+bound-beyond n h = rw (le-ltb n largest h)
+
+spelled-digits : (w : Bytes) (n : ℕ) → numeralOf w ≡ Number n → (every isDigit w ≡ true) × (min (numberOf w) largest ≡ n)
 spelled-digits w n e = go (every isDigit w) refl e
   where
-    go : (b : Bool) → every isDigit w ≡ b → cond b (Number (min (numberOf w) most)) NotDigits ≡ Number n → (every isDigit w ≡ true) × (min (numberOf w) most ≡ n)
+    go : (b : Bool) → every isDigit w ≡ b → cond b (Number (min (numberOf w) largest)) NotDigits ≡ Number n → (every isDigit w ≡ true) × (min (numberOf w) largest ≡ n)
     go true d e = (d, cc)
     go false d e = no (cc)
 
 spelled-none : (w : Bytes) → numeralOf w ≡ NotDigits → every isDigit w ≡ false
 spelled-none w e = go (every isDigit w) refl e
   where
-    go : (b : Bool) → every isDigit w ≡ b → cond b (Number (min (numberOf w) most)) NotDigits ≡ NotDigits → every isDigit w ≡ false
+    go : (b : Bool) → every isDigit w ≡ b → cond b (Number (min (numberOf w) largest)) NotDigits ≡ NotDigits → every isDigit w ≡ false
     go true d e = no (cc)
     go false d e = d
 

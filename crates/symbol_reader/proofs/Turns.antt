@@ -13,8 +13,9 @@ use borrow.Author.Tests.{le-leb, lt-leb, leb-true, leb-false}
 use Rattle.text.specs.Bytes.{Bytes, every, same, isDigit, numberAfter}
 use Rattle.text.proofs.Parts.{part-none}
 use Rattle.grammar.specs.Spelling.{isAmong}
+use Rattle.tables.specs.Limits.{largest}
 use Rattle.symbol_reader.specs.Steps.{nameAt}
-use Rattle.symbol_reader.specs.Leaves.{most, namesIn}
+use Rattle.symbol_reader.specs.Leaves.{namesIn}
 use Rattle.symbol_reader.specs.declared.numbers.Numeral.{Numeral}
 use Rattle.symbol_reader.specs.declared.numbers.Numeral.the-variants.{Number, NotDigits}
 
@@ -69,23 +70,23 @@ module _ (low high b : ℕ) where
 
 -- `numeralOf` after digits that spell n
 abbrev pub numeralAfter : ℕ → Bytes → Numeral
-numeralAfter n w = cond (every isDigit w) (Number (min (numberAfter n w) most)) NotDigits
+numeralAfter n w = cond (every isDigit w) (Number (min (numberAfter n w) largest)) NotDigits
 
 number-grows : (n : ℕ) (w : Bytes) → n ≤ numberAfter n w
 number-grows n [] = omega arith
 number-grows n (b ∷ w) = omega (arith, number-grows (n * 10 + (b - 48)) w)
 
--- a number over `most` may be taken for `most`
-number-capped : (n : ℕ) (w : Bytes) → min (numberAfter n w) most ≡ min (numberAfter (min n most) w) most
-number-capped n w = go (leb n most) refl
+-- a number over the largest that a cell holds may be taken for that
+number-capped : (n : ℕ) (w : Bytes) → min (numberAfter n w) largest ≡ min (numberAfter (min n largest) w) largest
+number-capped n w = go (leb n largest) refl
   where
-    go : (x : Bool) → leb n most ≡ x → min (numberAfter n w) most ≡ min (numberAfter (min n most) w) most
-    go true e = let h : min n most ≡ n = omega (arith, leb-true n most e) in rw h
+    go : (x : Bool) → leb n largest ≡ x → min (numberAfter n w) largest ≡ min (numberAfter (min n largest) w) largest
+    go true e = let h : min n largest ≡ n = omega (arith, leb-true n largest e) in rw h
     go false e =
-        let h : min n most ≡ most = omega (arith, leb-false n most e) in
-        rw h (omega (arith, leb-false n most e, number-grows most w, number-grows n w))
+        let h : min n largest ≡ largest = omega (arith, leb-false n largest e) in
+        rw h (omega (arith, leb-false n largest e, number-grows largest w, number-grows n w))
 
-pub numeral-digit : (n b : ℕ) (w : Bytes) → isDigit b ≡ true → numeralAfter n (b ∷ w) ≡ numeralAfter (min (n * 10 + (b - 48)) most) w
+pub numeral-digit : (n b : ℕ) (w : Bytes) → isDigit b ≡ true → numeralAfter n (b ∷ w) ≡ numeralAfter (min (n * 10 + (b - 48)) largest) w
 numeral-digit n b w e = rw e (ap (λ (k : ℕ). cond (every isDigit w) (Number k) NotDigits) (number-capped (n * 10 + (b - 48)) w))
 
 -- ---- a name among those of a row table, four cells for each row

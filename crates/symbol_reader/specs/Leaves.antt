@@ -4,7 +4,8 @@ use mathlib.Core.Path.{_≡_}
 use mathlib.Core.Bool.{Bool, false, cond}
 use mathlib.Core.List.{List, [], _∷_}
 use mathlib.Core.Logic.{_⊎_}
-use Prim.Native.Nat.{ℕ, _+_, _-_, _*_, _%_, _≤_, _<_, min}
+use Prim.Native.Nat.{ℕ, suc, _+_, _-_, _*_, _%_, _≤_, _<_, min}
+use lib.Dec.{ltb}
 use lib.IntN.{ℤ}
 use lib.ListN.{length, set}
 use lib.Seq.{slice, sets}
@@ -14,6 +15,7 @@ use Rattle.text.specs.Scans.{Found}
 use Rattle.text.specs.Words as W
 use Rattle.arithmetic.specs.Outcome.{Outcome, gives, refuses}
 use Rattle.arithmetic.specs.declared.Fraction.{Fraction}
+use Rattle.tables.specs.Limits.{largest}
 use Rattle.grammar.specs.Tree.{Direction, minimize, maximize, Sense, equal, atMost, atLeast}
 use Rattle.grammar.specs.Format.{Word, Or, instead, given, Symbol}
 use Rattle.grammar.specs.Certificate.{means, ClaimWord, infeasWord, rangeWord}
@@ -79,13 +81,13 @@ directions = means W.min minimize ∷ means W.max maximize ∷ []
 abbrev pub claims : List (Word ClaimWord)
 claims = means W.infeas infeasWord ∷ means W.range rangeWord ∷ []
 
--- every count and index is below this, and an index cell holds it
-abbrev pub most : ℕ
-most = 65535
-
--- the number that the bytes spell, or `most` where it is more; or that they are no digits
+-- the number that the bytes spell, or the largest that a cell holds where it is more; or that they are no digits
 abbrev pub numeralOf : Bytes → Numeral
-numeralOf w = cond (every isDigit w) (Number (min (numberOf w) most)) NotDigits
+numeralOf w = cond (every isDigit w) (Number (min (numberOf w) largest)) NotDigits
+
+-- the bound of a count of at most n; no bound is above the largest number that a cell holds
+abbrev pub boundOf : ℕ → ℕ
+boundOf n = cond (ltb n largest) (suc n) largest
 
 -- the first of these tokens is the word
 abbrev pub startsWith : Bytes → Stream → Bool

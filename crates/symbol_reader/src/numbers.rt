@@ -9,7 +9,7 @@ ghost use Rattle.grammar.specs.Format.{symbol, number, or};
 ghost use Rattle.grammar.specs.Certificate.{countTo, indexBelow, newIndexBelow};
 ghost use Rattle.symbol_reader.specs.Follows.{Always, Follows, below, cellOr, Refuses};
 ghost use Rattle.symbol_reader.specs.Marks.{Marks};
-ghost use Rattle.symbol_reader.specs.Leaves.{NoCell, numeralOf, Means, tokenAt, orCell};
+ghost use Rattle.symbol_reader.specs.Leaves.{NoCell, numeralOf, boundOf, Means, tokenAt, orCell};
 ghost use Rattle.tables.specs.Limits.{largest};
 use crate::Step;
 use crate::marks;
@@ -81,15 +81,14 @@ pub fn read_index(text: &[u8], s: Step, bound: usize, index: &mut [u16]) -> Step
     stores::filled(s, t.from, index)
 }
 
-// The bound of a count of at most `most`.
+// The bound of a count of at most `most`; none is above the largest number that a cell holds.
 pub fn bound_of(most: usize) -> usize
-    ensures { λ r. ⌜ (most < largest → r ≡ suc most) ⌝ }
+    ensures { λ r. ⌜ r ≡ boundOf most ⌝ }
 {
     if most < limits::LARGEST {
-        most + 1
-    } else {
-        most
+        return most + 1;
     }
+    limits::LARGEST
 }
 
 // A count is due, of at most `most`.

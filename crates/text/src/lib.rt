@@ -4,7 +4,7 @@ ghost use mathlib.Core.Path.{_≡_};
 ghost use Prim.Native.Nat.{_+_, min};
 ghost use lib.ListN.{drop};
 ghost use lib.Seq.{slice};
-ghost use Rattle.text.specs.Bytes.{isSeparator, leading, same};
+ghost use Rattle.text.specs.Bytes.{isSeparator, isDigit, leading, same};
 ghost use Rattle.text.specs.Comments.{commentsEnd};
 ghost use Rattle.text.specs.Tokens.{rest};
 ghost use Rattle.text.specs.Lines.{lineOf};
@@ -38,6 +38,16 @@ fn is_separator(b: u8) -> bool
         return true;
     }
     b == 10
+}
+
+// A decimal digit.
+pub fn is_digit(b: u8) -> bool
+    ensures { λ r. ⌜ r ≡ isDigit b ⌝ }
+{
+    if b < 48 {
+        return false;
+    }
+    b <= 57
 }
 
 // The byte is of the kind.

@@ -15,16 +15,16 @@ use Rattle.text.specs.Bytes.{Bytes, every, isNumeral, numberAfter, numberOf}
 use Rattle.arithmetic.specs.Outcome.{refuses}
 use Rattle.arithmetic.specs.Quotient.{lowest}
 use Rattle.arithmetic.specs.Parts.{over}
-use Rattle.value.specs.Spelling.{Tail, nothing, point, isZero, quotientOf, mostDigits, wholeDigits, decimalDigits}
-use Rattle.value.specs.Reading.{tailOf, withTail, narrowed, outcomeOf}
-use Rattle.value.specs.Forms.{by-test, numeral-digits}
-use Rattle.value.specs.Agreement.{number-positive}
-use Rattle.value.specs.Promise.{powerOfTen}
+use Rattle.numerals.specs.Spelling.{Tail, nothing, point, isZero, quotientOf, mostDigits, wholeDigits, decimalDigits}
+use Rattle.numerals.specs.Reading.{tailOf, withTail, narrowed, outcomeOf}
+use Rattle.numerals.proofs.Forms.{by-test, numeral-digits}
+use Rattle.numerals.proofs.Agreement.{number-positive}
+use Rattle.powers.specs.Powers.{powerOfTen}
 use Rattle.value.specs.Runs.{Grown, Stands, wholeOutcome}
 use Rattle.value.specs.declared.Digits.{Digits}
-use Rattle.value.proofs.Powers.{ten-positive, power-within}
-use Rattle.value.proofs.Numbers.{number-append, trailing-number, leading-none, leading-some}
-use Rattle.value.proofs.Widths.{lowest-scaled}
+use Rattle.powers.proofs.PowersLaws.{ten-positive, power-within}
+use Rattle.numerals.proofs.Numbers.{number-append, trailing-number, leading-none, leading-some}
+use Rattle.numerals.proofs.Widths.{lowest-scaled}
 
 -- the power of ten for the digits of a decimal part that are no trailing zeros
 module _ (d : Digits) (t : Bytes) (r : Digits) (g : Grown d t r) (k : r .count ≤ mostDigits) (p : ℕ) (q : p ≡ powerOfTen (length t - r .zeros)) where

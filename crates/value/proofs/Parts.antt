@@ -3,12 +3,12 @@
 use mathlib.Core.Path.{_≡_, sym, subst}
 use mathlib.Core.Bool.{true, false}
 use Rattle.text.specs.Bytes.{Bytes, isNumeral}
-use Rattle.value.specs.Reading.{digitsOf}
+use Rattle.numerals.specs.Reading.{digitsOf}
 use Rattle.value.specs.Runs.{Stands, Ended}
 use Rattle.value.specs.declared.Digits.{Digits}
 use Rattle.value.specs.declared.Part.{Part}
 use Rattle.value.specs.declared.Part.the-variants as part
-use Rattle.value.proofs.Numbers.{digits-numeral}
+use Rattle.numerals.proofs.Numbers.{digits-numeral}
 
 module _ (t : Bytes) (d : Digits) (p : Part) (h : Ended t d p) where
   pub part-misspelled : p ≡ part.NotDigits → isNumeral t ≡ false

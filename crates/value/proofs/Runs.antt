@@ -7,23 +7,17 @@ use mathlib.Core.List.{[], _∷_, _++_, append-nil, append-assoc}
 use Prim.Native.Nat.{ℕ, _+_, _-_, _*_, _^_, _≤_, _<_}
 use native.Mathlib.Nat.{add-zero}
 use native.Mathlib.Omega.{arith}
-use borrow.Author.Tests.{leb-true}
-use lib.Dec.{leb}
 use lib.ListN.{length, getD, drop, length-drop, drop-of-length-le}
 use lib.Seq.{append-snoc, drop-drop}
 use Rattle.text.specs.Bytes.{Bytes, isDigit, every, leading}
 use Rattle.text.specs.BytesLaws.{clash, both, every-append, leading-le, leading-every, uncons}
-use Rattle.value.specs.Spelling.{isZero, dropLeading}
-use Rattle.value.specs.Reading.{digitsOf}
-use Rattle.value.specs.Forms.{by-test, Stops, digits-lead, digits-are}
+use Rattle.numerals.specs.Spelling.{isZero, dropLeading}
+use Rattle.numerals.specs.Reading.{digitsOf}
+use Rattle.numerals.proofs.Forms.{by-test, Stops, digits-lead, digits-are}
 use Rattle.value.specs.Runs.{Bounded, Grown, Appended, Longer, RunRead, noDigits, Significant, SignificantRead, Stands, WholeRead}
 use Rattle.value.specs.declared.Digits.{Digits}
 use Rattle.value.specs.declared.Run.{Run}
-use Rattle.value.proofs.Numbers.{length-more, trailing-number, leading-number, no-digit-left, digit-left, skip-digits, skip-length, length-digits}
-
-pub digit-bounds : (b : ℕ) → isDigit b ≡ true → (48 ≤ b) × (b ≤ 57)
-unfolding isDigit
-digit-bounds b e = (leb-true 48 b (both (leb 48 b) (leb b 57) e .0), leb-true b 57 (both (leb 48 b) (leb b 57) e .1))
+use Rattle.numerals.proofs.Numbers.{digit-bounds, length-more, trailing-number, leading-number, no-digit-left, digit-left, skip-digits, skip-length, length-digits}
 
 -- ---- the loop
 

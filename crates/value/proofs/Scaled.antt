@@ -18,15 +18,16 @@ use Rattle.arithmetic.specs.Outcome.{refuses}
 use Rattle.arithmetic.specs.Quotient.{lowest}
 use Rattle.arithmetic.specs.Parts.{over}
 use Rattle.arithmetic.specs.Fraction.{limit}
-use Rattle.value.specs.Spelling.{Exponent, scaled, significand, places, trailingZeros, powerOf, topScaled, bottomScaled, quotientOf, mostDigits, mostPower}
-use Rattle.value.specs.Reading.{afterLetter, scaledBy, withTail, narrowed, outcomeOf}
-use Rattle.value.specs.Forms.{by-test}
-use Rattle.value.specs.Promise.{powerOfTen}
-use Rattle.value.specs.Runs.{Appended, Significant, wholeOutcome, scaledOutcome, ExponentIs}
+use Rattle.numerals.specs.Spelling.{Exponent, scaled, significand, places, trailingZeros, powerOf, topScaled, bottomScaled, quotientOf, mostDigits, mostPower}
+use Rattle.numerals.specs.Reading.{afterLetter, scaledBy, withTail, narrowed, outcomeOf}
+use Rattle.numerals.proofs.Forms.{by-test}
+use Rattle.powers.specs.Powers.{powerOfTen}
+use Rattle.exponents.specs.Exponents.{ExponentIs}
+use Rattle.value.specs.Runs.{Appended, Significant, wholeOutcome, scaledOutcome}
 use Rattle.value.specs.declared.Digits.{Digits}
-use Rattle.value.proofs.Powers.{ten-positive, power-within}
-use Rattle.value.proofs.Numbers.{number-length}
-use Rattle.value.proofs.Widths.{lowest-scaled, whole-beyond}
+use Rattle.powers.proofs.PowersLaws.{ten-positive, power-within}
+use Rattle.numerals.proofs.Numbers.{number-length}
+use Rattle.numerals.proofs.Widths.{lowest-scaled, whole-beyond}
 use Rattle.value.proofs.Outcomes.{whole-wide, whole-narrow}
 use Rattle.value.proofs.Runs.{significant-zero, significant-digit}
 

@@ -8,12 +8,12 @@ use native.Mathlib.Nat.{lt-trans, mul-assoc}
 use native.Mathlib.Omega.{arith}
 use borrow.Author.Tests.{ne-eqb}
 use Rattle.text.specs.Bytes.{Bytes, numberAfter}
-use Rattle.value.specs.Spelling.{isZero, dropTrailing, mostDigits}
-use Rattle.value.specs.Promise.{powerOfTen}
+use Rattle.numerals.specs.Spelling.{isZero, dropTrailing, mostDigits}
+use Rattle.powers.specs.Powers.{powerOfTen}
 use Rattle.value.specs.Runs.{Grown, Appended, Longer}
 use Rattle.value.specs.declared.Digits.{Digits}
-use Rattle.value.proofs.Powers.{ten-positive, ten-fits, ten-next, power-within, appended-below}
-use Rattle.value.proofs.Numbers.{number-append, trailing-number, zero-trails, digit-trails, length-more}
+use Rattle.powers.proofs.PowersLaws.{ten-positive, ten-fits, ten-next, power-within, appended-below}
+use Rattle.numerals.proofs.Numbers.{number-append, trailing-number, zero-trails, digit-trails, length-more}
 
 -- ---- digits that count
 

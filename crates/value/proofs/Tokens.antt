@@ -13,11 +13,12 @@ use lib.Seq.{drop-drop}
 use Rattle.text.specs.Bytes.{Bytes, isDigit, leading, isNumeral}
 use Rattle.text.specs.BytesLaws.{uncons, leading-every, leading-stop}
 use Rattle.arithmetic.specs.Outcome.{refuses}
-use Rattle.value.specs.Spelling.{Tail, nothing, point, places}
-use Rattle.value.specs.Reading.{digitsOf, afterDigits, afterLetter, exponentFrom, scaledBy, afterPoint, tailOf, withTail, unsignedForm, formOf, outcomeOf, readValue}
-use Rattle.value.specs.Forms.{by-test}
-use Rattle.value.specs.Runs.{isLetter, AfterPoint}
-use Rattle.value.proofs.ExponentLaws.{letter-capital, no-letter}
+use Rattle.numerals.specs.Spelling.{Tail, nothing, point, places}
+use Rattle.numerals.specs.Reading.{digitsOf, afterDigits, afterLetter, exponentFrom, scaledBy, afterPoint, tailOf, withTail, unsignedForm, formOf, outcomeOf, readValue}
+use Rattle.numerals.proofs.Forms.{by-test}
+use Rattle.exponents.specs.Exponents.{isLetter}
+use Rattle.value.specs.Runs.{AfterPoint}
+use Rattle.exponents.proofs.ExponentLaws.{letter-capital, no-letter}
 
 numeral-some : (t : Bytes) → (leading isDigit t ≡ 0 → ⊥) → isNumeral (digitsOf t) ≡ true
 numeral-some [] n = absurd (n refl)

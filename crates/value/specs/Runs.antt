@@ -1,13 +1,12 @@
 -- What the code's digits stand for: the terms of its private contracts. No public contract cites this file.
 -- Assumes nothing.
 use mathlib.Core.Path.{_≡_}
-use mathlib.Core.Bool.{Bool, true, false, cond, _||_}
+use mathlib.Core.Bool.{Bool, true, false, cond}
 use mathlib.Core.List.{[], _∷_, _++_}
-use mathlib.Core.Logic.{_⊎_}
-use mathlib.Core.Option.{Option, none, some}
+use mathlib.Core.Option.{Option}
 use Prim.Native.Nat.{ℕ, _+_, _*_, _^_, _≤_, _<_}
 use lib.Dec.{ltb, eqb}
-use lib.IntN.{ℤ, pos, negℤ, natAbs}
+use lib.IntN.{ℤ, natAbs}
 use lib.ListN.{length}
 use Rattle.integers.specs.Signs.{withSign}
 use Rattle.text.specs.Bytes.{Bytes, isDigit, every, leading, isNumeral, numberAfter, numberOf}
@@ -15,22 +14,15 @@ use Rattle.arithmetic.specs.Outcome.{Outcome, refuses}
 use Rattle.arithmetic.specs.Quotient.{lowest}
 use Rattle.arithmetic.specs.Parts.{over}
 use Rattle.arithmetic.specs.declared.Fraction.{Fraction}
-use Rattle.value.specs.Spelling.{Sign, Tail, isMinus, places, topScaled, bottomScaled, dropLeading, dropTrailing, mostDigits, mostPower, wholeDigits, decimalDigits}
-use Rattle.value.specs.Reading.{digitsOf, afterLetter, exponentFrom, scaledBy, withTail, narrowed, outcomeOf}
+use Rattle.numerals.specs.Spelling.{Tail, places, topScaled, bottomScaled, dropLeading, dropTrailing, mostDigits, mostPower, wholeDigits, decimalDigits}
+use Rattle.numerals.specs.Reading.{digitsOf, afterLetter, exponentFrom, scaledBy, withTail, narrowed, outcomeOf}
+use Rattle.exponents.specs.Exponents.{room}
 use Rattle.value.specs.declared.Digits.{Digits}
 use Rattle.value.specs.declared.Run.{Run}
 use Rattle.value.specs.declared.Part.{Part}
 use Rattle.value.specs.declared.Part.the-variants as part
 use Rattle.value.specs.declared.Ratio.{Ratio}
 use Rattle.value.specs.declared.Ratio.the-variants as ratio
-use Rattle.value.specs.declared.exponents.Exponent.{Exponent}
-use Rattle.value.specs.declared.exponents.Exponent.the-variants as exponent
-use Rattle.value.specs.declared.exponents.Power.{Power}
-use Rattle.value.specs.declared.exponents.Power.the-variants as power
-
--- no slice has as many bytes
-abbrev pub room : ℕ
-room = 2 ^ 63
 
 -- d has at most n digits, and its number is below the power of ten of those that count: so nothing overflows
 pub record Bounded (n : ℕ) (d : Digits) : Type 0 where
@@ -144,41 +136,3 @@ Scaled d p t r =
 -- the place after the byte b at a place, if it is a point
 abbrev pub AfterPoint : ℕ → ℕ → ℕ → Type 0
 AfterPoint b at next = next ≡ cond (eqb b 46) (at + 1) at
-
--- ---- exponents
-
--- `E` or `e`
-abbrev pub isLetter : ℕ → Bool
-isLetter b = eqb b 69 || eqb b 101
-
--- e is the number n; or both are so large that no number of digits makes up for it
-abbrev pub large : ℕ
-large = 2 ^ 60
-
-abbrev pub Saturated : ℕ → ℕ → Type 0
-Saturated n e = (e ≡ n) ⊎ ((large * 10 ≤ e) × (large * 10 ≤ n))
-
--- the digits t spell the number that e is; or t is no numeral
-abbrev pub NumberRead : Bytes → Bool → Exponent → Type 0
-NumberRead t minus (exponent.Of m e) = (isNumeral t ≡ true) × (m ≡ minus) × Saturated (numberOf t) e
-NumberRead t minus exponent.NotDigits = isNumeral t ≡ false
-
--- after the letter, t is a sign and digits
-pub record ExponentIs (t : Bytes) (m : Bool) (e : ℕ) : Type 0 where
-  pub sign : Sign
-  pub digits : Bytes
-  pub form : (capital : Bool) → afterLetter capital t ≡ some (record { capital = capital; sign = sign; digits = digits })
-  pub sign-is : isMinus sign ≡ m
-  pub number-is : Saturated (numberOf digits) e
-
-abbrev pub ExponentRead : Bytes → Exponent → Type 0
-ExponentRead t (exponent.Of m e) = ExponentIs t m e
-ExponentRead t exponent.NotDigits = (capital : Bool) → afterLetter capital t ≡ none
-
--- ---- powers of ten
-
--- x by its cases: up or down by at most 18, or outside -18 to 18
-abbrev pub PowerIs : ℤ → Power → Type 0
-PowerIs x (power.Up k) = (k ≤ mostPower) × (x ≡ pos k)
-PowerIs x (power.Down k) = (k ≤ mostPower) × (x ≡ negℤ (pos k))
-PowerIs x power.Outside = mostPower < natAbs x

@@ -10,16 +10,16 @@ ghost use Rattle.integers.specs.Signs.{withSign};
 ghost use Rattle.text.specs.Bytes.{isDigit, leading};
 ghost use Rattle.arithmetic.specs.Quotient.{lowest};
 ghost use Rattle.arithmetic.specs.Parts.{over};
-ghost use Rattle.value.specs.Spelling.{isZero, mostDigits};
-ghost use Rattle.value.specs.Reading.{digitsOf, tailOf, unsignedForm, narrowed, outcomeOf};
-ghost use Rattle.value.specs.Promise.{ValueRead, valueSays, powerOfTen};
-ghost use Rattle.value.specs.Runs.{room, Bounded, Appended, Longer, RunRead, noDigits, SignificantRead, Continued, WholeRead, Ended, PositiveRatio, ratioSays, wholeOutcome, scaledOutcome, WithTail, WithSignificant, Extended, Scaled, PowerIs, AfterPoint};
+ghost use Rattle.numerals.specs.Spelling.{isZero, mostDigits};
+ghost use Rattle.numerals.specs.Reading.{digitsOf, tailOf, unsignedForm, narrowed, outcomeOf};
+ghost use Rattle.numerals.specs.ValueRead.{ValueRead};
+ghost use Rattle.value.specs.Promise.{valueSays};
+ghost use Rattle.exponents.specs.Exponents.{room, PowerIs};
+ghost use Rattle.value.specs.Runs.{Bounded, Appended, Longer, RunRead, noDigits, SignificantRead, Continued, WholeRead, Ended, PositiveRatio, ratioSays, wholeOutcome, scaledOutcome, WithTail, WithSignificant, Extended, Scaled, AfterPoint};
 use arithmetic::Arithmetic;
 use arithmetic::Fraction;
 use exponents::Exponent;
 use exponents::Power;
-
-mod exponents;
 
 // The most digits that may count.
 const MOST_DIGITS: usize = 18;
@@ -29,31 +29,6 @@ pub enum ValueAnswer {
     Value(Fraction),
     NotAValue,
     TooWide,
-}
-
-// Exactly ten to the power k for 0 to 18, and 0 for any k above.
-pub fn power_of_ten(k: usize) -> u64
-    ensures { λ r. ⌜ r ≡ powerOfTen k ⌝ }
-{
-    if k > 18 {
-        return 0;
-    }
-    let mut p: u64 = 1;
-    let mut i = 0;
-    while i < k {
-        p *= 10;
-        i += 1;
-    }
-    p
-}
-
-pub(crate) fn is_digit(b: u8) -> bool
-    ensures { λ r. ⌜ r ≡ isDigit b ⌝ }
-{
-    if b < 48 {
-        return false;
-    }
-    b <= 57
 }
 
 // Digits, as they are read one by one: the number that they spell, how many of them count, and the zeros after these, which
@@ -89,7 +64,7 @@ impl Digits {
             };
         }
         Digits {
-            number: self.number * power_of_ten(places) + last,
+            number: self.number * powers::power_of_ten(places) + last,
             count,
             zeros: 0,
         }
@@ -143,7 +118,7 @@ fn read_run(token: &[u8], from: usize, start: Digits) -> Run
     let mut at = from;
     while at < token.len() {
         let b = token[at];
-        if is_digit(b) {
+        if text::is_digit(b) {
             digits = digits.with((b - 48) as u64);
             at += 1;
         } else {
@@ -265,7 +240,7 @@ fn times_power(digits: Digits, x: Power) -> Ratio
 {
     match x {
         Power::Up(k) => whole_ratio(digits.appended(k, 0)),
-        Power::Down(k) => Ratio::Of(digits.number, power_of_ten(k)),
+        Power::Down(k) => Ratio::Of(digits.number, powers::power_of_ten(k)),
         Power::Outside => Ratio::TooWide,
     }
 }
@@ -332,7 +307,7 @@ fn decimal_ratio(whole: Digits, token: &[u8], at: usize) -> Ratio
     if d.count > MOST_DIGITS {
         return Ratio::TooWide;
     }
-    Ratio::Of(d.number, power_of_ten(end - first - d.zeros))
+    Ratio::Of(d.number, powers::power_of_ten(end - first - d.zeros))
 }
 
 // What stands after the optional minus.

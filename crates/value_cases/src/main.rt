@@ -202,7 +202,7 @@ fn power(k: usize) {
     put(b"10 to the power ");
     io::print_decimal(1, k as u64);
     put(b" is ");
-    io::print_decimal(1, value::power_of_ten(k));
+    io::print_decimal(1, powers::power_of_ten(k));
     put(b"\n");
 }
 

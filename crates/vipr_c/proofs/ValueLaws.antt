@@ -8,8 +8,8 @@ use Rattle.text.specs.Bytes.{Bytes}
 use Rattle.arithmetic.specs.Outcome.{Outcome, gives, refuses}
 use Rattle.arithmetic.specs.declared.Fraction.{Fraction}
 use Rattle.fraction_c.specs.Stored.{Stored, status}
-use Rattle.value.specs.Spelling.{SpellsValue}
-use Rattle.value.specs.Promise.{ValueRead}
+use Rattle.numerals.specs.Spelling.{SpellsValue}
+use Rattle.numerals.specs.ValueRead.{ValueRead}
 use Rattle.vipr_c.specs.Values.{ValueReturned}
 
 -- it gives or it refuses, and not both

@@ -7,9 +7,9 @@ use Prim.Native.Nat.{ℕ}
 use Rattle.text.specs.Bytes.{Bytes}
 use Rattle.arithmetic.specs.declared.Fraction.{Fraction}
 use Rattle.fraction_c.specs.Stored.{Stored}
-use Rattle.value.specs.Spelling.{SpellsValue, SpellsTooWide, Misspelled}
-use Rattle.value.specs.Reading.{readValue}
-use Rattle.value.specs.Promise.{ValueRead}
+use Rattle.numerals.specs.Spelling.{SpellsValue, SpellsTooWide, Misspelled}
+use Rattle.numerals.specs.Reading.{readValue}
+use Rattle.numerals.specs.ValueRead.{ValueRead}
 
 pub record ValueReturned (token : Bytes) (returned : ℕ) (before after : Fraction) : Type 0 where
   -- 0 and the fraction stored; or the number of the refusal, and nothing stored

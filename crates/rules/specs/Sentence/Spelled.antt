@@ -12,8 +12,8 @@ use Rattle.text.specs.Bytes.{Bytes}
 use Rattle.text.specs.Tokens.{Token}
 use Rattle.arithmetic.specs.Fraction.{IsFraction}
 use Rattle.arithmetic.specs.declared.Fraction.{Fraction}
-use Rattle.value.specs.Spelling.{SpellsValue}
-use Rattle.value.specs.Agreement.{value-read}
+use Rattle.numerals.specs.Spelling.{SpellsValue}
+use Rattle.numerals.proofs.Agreement.{value-read}
 use Rattle.grammar.specs.Tree.{Integers, Objective, Constraints, Solutions, Derivations, Term, Side, obj, listed, Row, End, infinite, finite, Claim, infeas, range, Solution, Multiplier, MultiplierList, Reason, asm, lin, rnd, uns, sol, Derivation, Tree}
 use Rattle.grammar.specs.Spelling.{isAmong, ItemsSpelled, Spells}
 use Rattle.grammar.specs.Certificate.{Pair, newIndexBelow, pair, ofTerm, ofMultiplier, multiplierList, side, row, rowNames, reason, assumptions, derivation, solution, endOr, claim, integers, objectiveSection, constraints, solutionSection, derivationSection, certificate}

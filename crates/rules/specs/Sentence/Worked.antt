@@ -15,8 +15,8 @@ use Rattle.arithmetic.specs.Quotient.{_≈_, wholeQ, lowest, floorZ, ceilingZ}
 use Rattle.arithmetic.specs.Fraction.{isFraction, onFractions, within, order}
 use Rattle.integers.specs.Gcd.{gcd, euclid}
 use Rattle.integers.specs.Integers.{*ℤ-pos-one}
-use Rattle.value.specs.Spelling.{quotientOf}
-use Rattle.value.specs.Reading.{readValue, outcomeOf, narrowed}
+use Rattle.numerals.specs.Spelling.{quotientOf}
+use Rattle.numerals.specs.Reading.{readValue, outcomeOf, narrowed}
 use Rattle.grammar.specs.Tree.{Term, Sense, atMost, atLeast, Tree}
 use Rattle.grammar.specs.Reading.{read}
 use Rattle.grammar.specs.Texts.{ReadText, taken, refused, readOf, read-sound, read-complete}

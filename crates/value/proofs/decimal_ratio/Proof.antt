@@ -10,12 +10,12 @@ use Prim.Native.Nat.{ℕ, _-_}
 use native.Mathlib.Omega.{arith}
 use lib.ListN.{length, drop}
 use Rattle.text.specs.Bytes.{Bytes}
-use Rattle.value.specs.Spelling.{Tail, point}
-use Rattle.value.specs.Reading.{digitsOf, tailOf, withTail, outcomeOf}
-use Rattle.value.specs.Promise.{powerOfTen}
+use Rattle.numerals.specs.Spelling.{Tail, point}
+use Rattle.numerals.specs.Reading.{digitsOf, tailOf, withTail, outcomeOf}
+use Rattle.powers.specs.Powers.{powerOfTen}
 use Rattle.value.specs.Runs.{Grown}
 use Rattle.value.specs.declared.Digits.{Digits}
-use Rattle.value.proofs.Numbers.{length-digits}
+use Rattle.numerals.proofs.Numbers.{length-digits}
 use Rattle.value.proofs.Runs.{grown-none, counted-stands}
 use Rattle.value.proofs.Outcomes.{no-form, decimal-wide, decimal-positive, decimal-narrow}
 use Rattle.value.proofs.Tokens.{first-bounds, no-decimals, decimals-end, goes-on}

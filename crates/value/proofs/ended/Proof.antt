@@ -3,7 +3,7 @@
 use mathlib.Core.Path.{refl}
 use native.Mathlib.Omega.{arith}
 use lib.ListN.{drop, length-drop}
-use Rattle.value.proofs.Numbers.{numeral-none, numeral-part, numeral-whole}
+use Rattle.numerals.proofs.Numbers.{numeral-none, numeral-part, numeral-whole}
 use Rattle.value.proofs.ended.Statement.{statement}
 use Rattle.value.proofs.ended.Tie as tie
 

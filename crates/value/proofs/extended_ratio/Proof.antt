@@ -8,10 +8,10 @@ use native.Mathlib.Omega.{arith}
 use lib.Dec.{eqb}
 use lib.ListN.{length, drop, getD}
 use Rattle.text.specs.Bytes.{Bytes}
-use Rattle.value.specs.Spelling.{Exponent}
-use Rattle.value.specs.Reading.{scaledBy, withTail, outcomeOf}
+use Rattle.numerals.specs.Spelling.{Exponent}
+use Rattle.numerals.specs.Reading.{scaledBy, withTail, outcomeOf}
 use Rattle.value.specs.Runs.{Significant}
-use Rattle.value.proofs.Numbers.{length-digits}
+use Rattle.numerals.proofs.Numbers.{length-digits}
 use Rattle.value.proofs.Scaled.{misspelled-exponent}
 use Rattle.value.proofs.Tokens.{letter-from, letter-missing}
 use Rattle.value.proofs.extended_ratio.Statement.{statement}

@@ -5,7 +5,7 @@ use mathlib.Core.Path.{_∙_, sym, ap}
 use Prim.Native.Nat.{_+_, _≤_}
 use native.Mathlib.Omega.{arith}
 use lib.ListN.{length}
-use Rattle.value.specs.Reading.{outcomeOf}
+use Rattle.numerals.specs.Reading.{outcomeOf}
 use Rattle.value.proofs.Runs.{read-short, counted-stands}
 use Rattle.value.proofs.Outcomes.{whole-outcome}
 use Rattle.value.proofs.Tokens.{no-digits, no-tail, tail-from, with-tail, run-stops}

@@ -8,7 +8,8 @@ use Prim.Native.Nat.{_-_}
 use native.Mathlib.Omega.{arith}
 use lib.ListN.{length, getD}
 use Rattle.text.specs.Bytes.{isDigit}
-use Rattle.value.proofs.Runs.{Reading, digit-bounds, reading-starts, reading-goes, reading-ends, stops-there, stops-past}
+use Rattle.numerals.proofs.Numbers.{digit-bounds}
+use Rattle.value.proofs.Runs.{Reading, reading-starts, reading-goes, reading-ends, stops-there, stops-past}
 use Rattle.value.proofs.read_run.Statement.{statement}
 use Rattle.value.proofs.read_run.Tie as tie
 

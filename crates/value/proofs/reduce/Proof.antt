@@ -15,7 +15,7 @@ use Rattle.arithmetic.specs.Fraction.{within, onFractions, arithmeticSays}
 use Rattle.arithmetic.proofs.Arithmetic.{the-type}
 use Rattle.arithmetic.specs.declared.Arithmetic.{Arithmetic}
 use Rattle.arithmetic.specs.declared.Arithmetic.the-variants.{Value, NotAFraction, TooWide}
-use Rattle.value.proofs.Widths.{narrowed-gives, narrowed-refuses}
+use Rattle.numerals.proofs.Widths.{narrowed-gives, narrowed-refuses}
 use Rattle.value.proofs.reduce.Statement.{statement}
 use Rattle.value.proofs.reduce.Tie as tie
 

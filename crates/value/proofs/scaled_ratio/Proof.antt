@@ -6,8 +6,8 @@ use mathlib.Core.Logic.{inl}
 use native.Mathlib.Omega.{arith}
 use lib.ListN.{drop}
 use Rattle.text.specs.Bytes.{Bytes, numberOf}
-use Rattle.value.specs.Reading.{afterLetter}
-use Rattle.value.specs.Runs.{ExponentIs, ExponentRead}
+use Rattle.numerals.specs.Reading.{afterLetter}
+use Rattle.exponents.specs.Exponents.{ExponentIs, ExponentRead}
 use Rattle.value.proofs.Scaled.{misspelled-exponent, first-digit, scaled-zero, scaled-wide, scaled-power}
 use Rattle.value.proofs.scaled_ratio.Statement.{statement}
 use Rattle.value.proofs.scaled_ratio.Tie as tie
@@ -43,28 +43,24 @@ returns-3 c =
     let p = c .before .before .before .before .before in
     (tt, λ s w after capital g q. sym (scaled-wide s w after _ g capital (after-letter p) _ _ (exponent p) (c .if2 .taken)))
 
-power-of-requires : tie.Need-power-of-requires
-power-of-requires c κs =
-    let h = at-start (c .before .before .before .before .before) .pre in
-    (h .1, omega (arith, h .0 .short))
-
 times-power-requires : tie.Need-times-power-requires
 times-power-requires c κs =
     let h = at-start (c .before .before .before .before .before .before) .pre in
-    (c .before .if2 .left, h .0 .small, (_, c .power-of .ensures _ (inl refl)))
+    (c .before .if2 .left, h .0 .small, (_, c .power-of .ensures _ (h .1) (omega (arith, h .0 .short)) (inl refl)))
 
 returns-4 : tie.Need-returns-4
 returns-4 c =
     let at-power = c .before in
     let at-if1 = at-power .before .before .before in
     let p = at-if1 .before .before .before in
-    let narrow = at-power .before .if2 .left in (
+    let narrow = at-power .before .if2 .left in
+    let h = at-start p .pre in (
       c .times-power .ensures .0,
       λ s w after capital g q.
-          c .times-power .ensures .1 (first-digit _ _ g (at-if1 .if1 .left) narrow) _ (at-power .power-of .ensures (numberOf (exponent p .digits)) (exponent p .number-is)) s
+          c .times-power .ensures .1 (first-digit _ _ g (at-if1 .if1 .left) narrow) _ (at-power .power-of .ensures (numberOf (exponent p .digits)) (h .1) (omega (arith, h .0 .short)) (exponent p .number-is)) s
           ∙ sym (scaled-power s w after _ g capital (after-letter p) _ _ (exponent p) _ q (at-if1 .if1 .left) narrow),
     )
 
 pub scaled-ratio-spec : {M : Type 1} → statement M
 scaled-ratio-spec = tie.close (tie.spec (λ c. search needs) (λ c. search needs) (λ c. search needs) returns (λ c. search needs)
-    returns-2 returns-3 power-of-requires times-power-requires returns-4)
+    returns-2 returns-3 (λ c. search needs) times-power-requires returns-4)

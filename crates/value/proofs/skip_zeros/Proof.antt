@@ -8,7 +8,7 @@ use borrow.Author.Tests.{eq-eqb, ne-eqb}
 use lib.ListN.{length, drop}
 use Rattle.text.specs.Bytes.{leading}
 use Rattle.text.proofs.Turns.{leading-more, leading-none, leading-past}
-use Rattle.value.specs.Spelling.{isZero}
+use Rattle.numerals.specs.Spelling.{isZero}
 use Rattle.value.proofs.skip_zeros.Statement.{statement}
 use Rattle.value.proofs.skip_zeros.Tie as tie
 

@@ -3,8 +3,9 @@
 use borrow.Author.Needs.{needs}
 use mathlib.Core.Path.{_∙_, sym, ap, subst}
 use native.Mathlib.Omega.{arith}
-use Rattle.value.specs.Runs.{PowerIs, scaledOutcome}
-use Rattle.value.proofs.Powers.{ten-positive}
+use Rattle.exponents.specs.Exponents.{PowerIs}
+use Rattle.value.specs.Runs.{scaledOutcome}
+use Rattle.powers.proofs.PowersLaws.{ten-positive}
 use Rattle.value.proofs.Scaled.{times-up, down-positive, times-down, times-outside}
 use Rattle.value.proofs.times_power.Statement.{statement}
 use Rattle.value.proofs.times_power.Tie as tie

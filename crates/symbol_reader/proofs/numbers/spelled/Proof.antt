@@ -7,14 +7,15 @@ use borrow.Author.Needs.{needs}
 use native.Mathlib.Omega.{arith}
 use lib.Seq.{slice}
 use Rattle.text.specs.Bytes.{isDigit}
-use Rattle.symbol_reader.specs.Leaves.{most, numeralOf}
+use Rattle.tables.specs.Limits.{largest}
+use Rattle.symbol_reader.specs.Leaves.{numeralOf}
 use Rattle.symbol_reader.specs.declared.numbers.Numeral.the-variants.{Number}
 use Rattle.symbol_reader.proofs.Turns.{Left, all-done, goes-on, settled, is-below, is-above, is-between, numeralAfter, numeral-digit}
 use Rattle.symbol_reader.proofs.numbers.spelled.Statement.{statement}
 use Rattle.symbol_reader.proofs.numbers.spelled.Tie as tie
 
 abbrev Inv-loop : tie.InvT-loop
-Inv-loop text from to n₀ i₀ n i = (n ≤ most) × Left (numeralAfter n) text i to (numeralOf (slice from to text))
+Inv-loop text from to n₀ i₀ n i = (n ≤ largest) × Left (numeralAfter n) text i to (numeralOf (slice from to text))
 
 abbrev μ-loop : tie.MeasureT-loop
 μ-loop text from to n₀ i₀ n i = to - i
@@ -46,7 +47,7 @@ loop-again c =
 returns-3 : tie.Need-returns-3 Inv-loop μ-loop
 returns-3 c =
     let l = c .before .loop in
-    let e : l .n ≡ min (l .n) most = omega arith in
+    let e : l .n ≡ min (l .n) largest = omega arith in
     ap Number e ∙ all-done (l .inv .1) (omega arith)
 
 pub spelled-spec : {M : Type 1} → statement M

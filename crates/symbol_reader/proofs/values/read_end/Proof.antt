@@ -14,7 +14,7 @@ use Rattle.text.specs.BytesLaws.{clash}
 use Rattle.text.specs.Tokens.{rest}
 use Rattle.text.specs.Scans.{Found}
 use Rattle.arithmetic.specs.declared.Fraction.{Fraction}
-use Rattle.value.specs.Reading.{readValue}
+use Rattle.numerals.specs.Reading.{readValue}
 use Rattle.grammar.specs.Format.{Or, instead, given, value, or}
 use Rattle.grammar.specs.Layout.{symbolCells, symbolMarks}
 use Rattle.symbol_reader.specs.Leaves.{tokenAt, orCell, startsWith}

@@ -1,6 +1,6 @@
 -- `value::Digits::counted` meets its contract: it is `appended` with the zeros held back.
 -- Assumes nothing.
-use Rattle.value.proofs.Powers.{ten-positive}
+use Rattle.powers.proofs.PowersLaws.{ten-positive}
 use Rattle.value.proofs.Digits.counted.Statement.{statement}
 use Rattle.value.proofs.Digits.counted.Tie as tie
 

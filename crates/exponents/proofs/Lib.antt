@@ -1,0 +1,2 @@
+-- The laws behind the code of exponents.
+pub mod ExponentLaws

@@ -1,0 +1,2 @@
+-- Laws of powers of ten.
+pub mod PowersLaws
