@@ -6,6 +6,6 @@ pub mod LoopLaws
 pub mod NamesLaws
 pub mod MarksLaws
 pub mod Fingerprints
+pub mod Decoding
 mod Turns
-mod Decoding
 mod TokenLaws
