@@ -13,11 +13,11 @@ use Rattle.grammar.specs.Tree.{Row, Direction, Tree}
 use Rattle.rules.specs.Rows.{variables, valueIn, objective, termsOf, constraintOf, objectiveWith}
 use Rattle.rules.specs.Domination.{isAbsurd, dominates}
 use Rattle.rules.specs.Sentence.Formed.{Formed, RowFormed}
+use Rattle.senses.specs.Senses.{senseIs, constraintBy}
+use Rattle.senses.specs.declared.Sense.{Sense}
 use Rattle.linear.specs.Lists.{termsIn, TermsBelow}
 use Rattle.linear.specs.ListsLaws.{formed-below, fractions-in}
 use Rattle.linear.specs.Coefficients.{AreFractions}
-use Rattle.linear.specs.Senses.{senseIs, constraintBy}
-use Rattle.linear.specs.declared.senses.Sense.{Sense}
 use Rattle.linear.specs.Comparing.{Compares}
 use Rattle.linear.specs.declared.domination.Compared.{Compared}
 use Rattle.encoding.specs.Places.{indicesAt, valuesAt}

@@ -9,7 +9,7 @@ ghost use Rattle.rules.specs.Rows.{variables, constraintOf, objectiveWith};
 ghost use Rattle.rules.specs.Domination.{isAbsurd, dominates};
 ghost use Rattle.rules.specs.Claims.{lastRow, lastPasses, asked as askedBy, isProved};
 ghost use Rattle.rules.specs.Sentence.Formed.{RowFormed};
-ghost use Rattle.linear.specs.Senses.{senseIs};
+ghost use Rattle.senses.specs.Senses.{senseIs};
 ghost use Rattle.encoding.specs.Encodes.{Encodes};
 ghost use Rattle.encoding.specs.Rows.{RowIs};
 ghost use Rattle.claims.specs.Asked.{against, askedSays, AskedFormed, meets as meetsOf};
@@ -21,7 +21,7 @@ use encoding::rows;
 use encoding::rows::ListedRow;
 use linear::domination;
 use linear::lists;
-use linear::senses::Sense;
+use senses::Sense;
 use tables::Header;
 
 // What the claim asks of the last row: nothing, to be absurd, or to dominate OBJ with a bound.

@@ -18,11 +18,11 @@ use Rattle.rules.specs.Result.{Result, bind, through}
 use Rattle.rules.specs.Rows.{termsOf, rowAt}
 use Rattle.rules.specs.Combinations as rules
 use Rattle.rules.specs.Combinations.{signed, nextCombination, combine}
+use Rattle.senses.specs.Signs.{signedBy, nextSigns, noneNegative, nonePositive, SignsAre}
+use Rattle.senses.specs.declared.signs.Signs.{Signs}
 use Rattle.linear.specs.Lists.{termsIn}
 use Rattle.linear.specs.ListsLaws.{listedFrom, listed-next, all-at, formed-below}
-use Rattle.linear.specs.Signs.{signedBy, nextSigns, noneNegative, nonePositive, SignsAre}
 use Rattle.linear.specs.Combinations.{within, combinationOf, combinationSays, HasFractions, Takes}
-use Rattle.linear.specs.declared.signs.Signs.{Signs}
 use Rattle.linear.specs.declared.combinations.Combination.{Combination}
 use Rattle.encoding.specs.Places.{indicesAt, valuesAt, aMultiplier}
 use Rattle.encoding.specs.Encodes.{EncodesRow, Encodes}

@@ -13,10 +13,10 @@ use Rattle.grammar.specs.Tree.{Row, Term, Tree}
 use Rattle.rules.specs.Rows.{variables, valueIn, termsOf, Constraint, constraintOf, rowAt}
 use Rattle.rules.specs.Domination.{dominates}
 use Rattle.rules.specs.Sentence.Formed.{Formed}
+use Rattle.senses.specs.Senses.{constraintBy}
 use Rattle.linear.specs.Lists.{termsIn, TermsBelow}
 use Rattle.linear.specs.ListsLaws.{formed-below, fractions-in}
 use Rattle.linear.specs.Coefficients.{AreFractions}
-use Rattle.linear.specs.Senses.{constraintBy}
 use Rattle.encoding.specs.Places.{indicesAt, valuesAt}
 use Rattle.encoding.specs.Encodes.{Encodes}
 use Rattle.encoding.specs.EncodesLaws.{variables-are}

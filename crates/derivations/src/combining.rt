@@ -6,13 +6,13 @@ ghost use lib.IntN.{ℤ};
 ghost use Rattle.tables.specs.declared.Header.{Header as HeaderOf};
 ghost use Rattle.grammar.specs.Tree.{Tree};
 ghost use Rattle.rules.specs.Combinations.{combine as combineOf};
+ghost use Rattle.senses.specs.Signs.{SignsAre};
 ghost use Rattle.linear.specs.Combinations.{combinationSays, HasFractions};
-ghost use Rattle.linear.specs.Signs.{SignsAre};
 ghost use Rattle.encoding.specs.Encodes.{Encodes};
 ghost use Rattle.derivations.specs.Checks.{multipliersIn, MultipliersBelow};
 use encoding::rows;
 use linear::combinations::Combination;
-use linear::signs::Signs;
+use senses::signs::Signs;
 use tables::Header;
 
 // The signs of the multipliers.

@@ -11,8 +11,8 @@ ghost use Rattle.rules.specs.Combinations.{suitableCombination};
 ghost use Rattle.rules.specs.Splits.{isProperSplit};
 ghost use Rattle.rules.specs.Derivations.{named, checkDominates, checkUns, checkSol};
 ghost use Rattle.rules.specs.Sentence.Formed.{Formed};
+ghost use Rattle.senses.specs.Senses.{constraintBy};
 ghost use Rattle.linear.specs.Coefficients.{coefficientsOf, AreFractions, VariablesAre};
-ghost use Rattle.linear.specs.Senses.{constraintBy};
 ghost use Rattle.encoding.specs.Places.{termsAt, multipliersOf};
 ghost use Rattle.encoding.specs.Encodes.{EncodesMultipliers, Encodes};
 ghost use Rattle.verdicts.specs.Verdicts.{verdictSays};
@@ -26,9 +26,9 @@ use grammar::Refusal;
 use linear::domination;
 use linear::lists;
 use linear::rounding;
-use linear::senses;
-use linear::senses::Sense;
 use linear::splits;
+use senses::Sense;
+use senses::right_sides;
 use tables::Header;
 use tables::Pairs;
 use verdicts::Verdict;
@@ -122,10 +122,10 @@ fn check_made<'a>(
         return check_dominates(index, values, n, row, nums, dens, sense, right);
     }
     let integral = rounding::is_integral(nums, dens, integers, n);
-    if !rounding::can_be_rounded(sense, integral) {
+    if !right_sides::can_be_rounded(sense, integral) {
         return Verdict::Refused(Refusal::CannotBeRounded, row.place);
     }
-    let rounded = rounding::rounded_right(sense, right);
+    let rounded = right_sides::rounded_right(sense, right);
     check_dominates(index, values, n, row, nums, dens, sense, rounded)
 }
 

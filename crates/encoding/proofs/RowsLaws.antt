@@ -18,8 +18,8 @@ use Rattle.tables.specs.declared.Pairs.{Pairs}
 use Rattle.grammar.specs.Certificate.{senseCell}
 use Rattle.grammar.specs.Tree.{Sense, equal, atMost, atLeast, Row, Tree}
 use Rattle.rules.specs.RowsLaws.{decides-sense}
-use Rattle.linear.specs.Senses.{senseIs}
-use Rattle.linear.specs.declared.senses.Sense as code
+use Rattle.senses.specs.Senses.{senseIs}
+use Rattle.senses.specs.declared.Sense as code
 use Rattle.encoding.specs.Places.{termsAt, pairsFrom, cellOf, numberOf, countOf, sideAt, ownTerms, multipliersOf}
 use Rattle.encoding.specs.Encodes.{EncodesRow}
 use Rattle.encoding.specs.Rows.{RowIs, ReasonIs}

@@ -8,7 +8,7 @@ use Rattle.tables.specs.Limits.{largest}
 use Rattle.grammar.specs.Tree.{Row, Tree}
 use Rattle.grammar.specs.Certificate.{ReasonWord, asmWord, linWord, rndWord, unsWord, solWord}
 use Rattle.rules.specs.Rows.{termsOf}
-use Rattle.linear.specs.Senses.{senseIs}
+use Rattle.senses.specs.Senses.{senseIs}
 use Rattle.encoding.specs.Places.{termsAt, reasonOf, lastOf}
 use Rattle.encoding.specs.declared.rows.ListedRow.{ListedRow}
 use Rattle.encoding.specs.declared.reasons.Word.{Word}

@@ -7,12 +7,12 @@ ghost use Rattle.tables.specs.Limits.{largest};
 ghost use Rattle.tables.specs.declared.Pairs.{Pairs as PairsOf};
 ghost use Rattle.grammar.specs.Tree.{Sense as TreeSense, Row, Tree};
 ghost use Rattle.grammar.specs.Certificate.{senseCell};
-ghost use Rattle.linear.specs.Senses.{senseIs};
+ghost use Rattle.senses.specs.Senses.{senseIs};
 ghost use Rattle.encoding.specs.Places.{sideAt, solutionOf};
 ghost use Rattle.encoding.specs.Encodes.{EncodesRow};
 ghost use Rattle.encoding.specs.Rows.{RowIs};
 use arithmetic::Fraction;
-use linear::senses::Sense;
+use senses::Sense;
 use tables::Pairs;
 use tables::words;
 

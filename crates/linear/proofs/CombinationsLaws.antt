@@ -22,13 +22,13 @@ use Rattle.grammar.specs.Tree.{Term}
 use Rattle.rules.specs.Result.{Result, done, refused, bind, through}
 use Rattle.rules.specs.Values.{productAt, sumAt}
 use Rattle.rules.specs.Combinations.{Combination, withCoefficient, addMultiple, nextCombination}
+use Rattle.senses.proofs.ArithmeticLaws.{says, is-refused, plusProduct, plus-product-is, bind-assoc}
 use Rattle.linear.specs.Lists.{aTerm, termsIn}
 use Rattle.linear.specs.ListsLaws.{listedFrom, listed-next, listed-none}
 use Rattle.linear.specs.Coefficients.{coefficientsOf, AreFractions}
 use Rattle.linear.specs.Combinations.{within, combinationOf, combinationSays, HasFractions, Takes}
 use Rattle.linear.specs.declared.combinations.Combination.{Combination as Code}
 use Rattle.linear.proofs.CoefficientsLaws.{aFraction, coefficients-set, not-zero}
-use Rattle.linear.proofs.ArithmeticLaws.{says, is-refused, plusProduct, plus-product-is, bind-assoc}
 use Rattle.linear.proofs.Going.{Going, first-is, going-on, going-stop, going-end}
 
 -- ---- one term

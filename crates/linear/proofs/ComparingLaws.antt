@@ -22,12 +22,12 @@ use Rattle.rules.specs.Tests.{allOf, everyBelow}
 use Rattle.rules.specs.Values.{sameZ, isZero, isSame}
 use Rattle.rules.specs.Rows.{valueIn}
 use Rattle.rules.specs.Sentence.Formed.{Formed}
+use Rattle.senses.proofs.Numbers.{is-number}
+use Rattle.senses.proofs.ValuesLaws.{sameParts}
 use Rattle.linear.specs.Lists.{aTerm, termsIn}
 use Rattle.linear.specs.ListsLaws.{listedFrom, listed-next, listed-none}
 use Rattle.linear.specs.Coefficients.{coefficientsOf, AreFractions}
 use Rattle.linear.specs.Comparing.{countBelow, isNonzero, nonzerosBelow}
-use Rattle.linear.proofs.Numbers.{is-number}
-use Rattle.linear.proofs.ValuesLaws.{sameParts}
 use Rattle.linear.proofs.CoefficientsLaws.{coefficient-in, coefficient-beyond}
 use Rattle.linear.proofs.Counting.{count-same, count-on, count-end}
 use Rattle.linear.proofs.ListedLaws.{nonzerosIn, same-listed}

@@ -1,9 +1,4 @@
 -- Laws over plain values that the functions' proofs cite, in reading order; those marked `pub` serve the crates above too.
-pub mod Truth
-mod Numbers
-mod ValuesLaws
-pub mod ArithmeticLaws
-mod SensesLaws
 mod CoefficientsLaws
 pub mod Going
 pub mod TestsLaws

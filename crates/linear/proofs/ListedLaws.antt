@@ -18,10 +18,10 @@ use Rattle.rules.specs.Values.{isZero, isSame}
 use Rattle.rules.specs.ValuesLaws.{decides-zero}
 use Rattle.rules.specs.Rows.{valueIn}
 use Rattle.rules.specs.Sentence.Formed.{Formed}
+use Rattle.senses.proofs.ValuesLaws.{decides-one, sameParts, decides-parts, decides-same-fraction}
 use Rattle.linear.specs.Coefficients.{AreFractions}
 use Rattle.linear.specs.ListsLaws.{formed-below, value-by, fractions-in}
 use Rattle.linear.specs.Comparing.{isNonzero, nonzerosBelow}
-use Rattle.linear.proofs.ValuesLaws.{decides-one, sameParts, decides-parts, decides-same-fraction}
 use Rattle.linear.proofs.Counting.{count-same, count-changed, count-all, count-end}
 
 all-both : {A : Type 0} {P Q R : A → Type 0} → ((x : A) → P x → Q x → R x) → (xs : List A) → All P xs → All Q xs → All R xs

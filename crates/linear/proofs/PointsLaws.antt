@@ -20,10 +20,10 @@ use Rattle.grammar.specs.Tree.{Term}
 use Rattle.rules.specs.Result.{Result, done, refused, through}
 use Rattle.rules.specs.Rows.{valueIn}
 use Rattle.rules.specs.Solutions.{leftSide}
+use Rattle.senses.proofs.ArithmeticLaws.{says, is-refused, plusProduct, plus-product-is}
 use Rattle.linear.specs.Lists.{aTerm, termsIn, TermsBelow}
 use Rattle.linear.specs.ListsLaws.{listedFrom, listed-next, listed-none}
 use Rattle.linear.specs.Coefficients.{AreFractions}
-use Rattle.linear.proofs.ArithmeticLaws.{says, is-refused, plusProduct, plus-product-is}
 use Rattle.linear.proofs.Going.{Going, first-is, going-on, going-stop, going-end}
 
 -- one term

@@ -1,33 +1,21 @@
--- Integral coefficients, and right sides that are rounded.
+-- Integral coefficients.
 -- Assumes nothing.
-use mathlib.Core.Path.{_≡_, refl, sym, _∙_, ap, subst}
-use mathlib.Core.Bool.{Bool, true, cond}
+use mathlib.Core.Path.{_≡_, refl, sym, _∙_, ap}
+use mathlib.Core.Bool.{Bool, true}
 use mathlib.Core.List.{List}
 use Prim.Native.Nat.{ℕ, _≤_}
-use native.Mathlib.Nat.{div-le-self, eq-one-of-dvd-one}
-use native.Mathlib.Omega.{arith}
-use lib.Dec.{lit≤}
-use lib.IntN.{ℤ, pos, negsuc, negℤ, natAbs}
-use Rattle.integers.specs.Signs.{natAbs-neg}
-use Rattle.integers.specs.Gcd.{gcd-right}
-use Rattle.arithmetic.specs.Outcome.{gives, refuses}
-use Rattle.arithmetic.specs.Quotient.{floorZ, ceilingZ, floorQ, ceilingQ}
-use Rattle.arithmetic.specs.Fraction.{limit, IsFraction, exact, onFractions, isFraction}
-use Rattle.arithmetic.specs.Meaning.{is-fraction}
+use lib.IntN.{ℤ}
 use Rattle.arithmetic.specs.declared.Fraction.{Fraction}
-use Rattle.grammar.specs.Tree.{Sense, equal, atMost, atLeast, Term, Tree}
+use Rattle.grammar.specs.Tree.{Term, Tree}
 use Rattle.rules.specs.Tests.{allOf, everyBelow}
-use Rattle.rules.specs.Values.{wholeF}
 use Rattle.rules.specs.Rows.{valueIn, variables, Constraint}
-use Rattle.rules.specs.Rounding.{isInteger, isIntegral, roundedRight}
+use Rattle.rules.specs.Rounding.{isInteger, isIntegral}
 use Rattle.rules.specs.Sentence.Formed.{Formed}
-use Rattle.linear.specs.Coefficients.{coefficientsOf, marked, mayStand, VariablesAre}
-use Rattle.linear.specs.Rounding.{withRounding}
+use Rattle.senses.specs.Rounding.{mayStand}
+use Rattle.linear.specs.Coefficients.{coefficientsOf, marked, VariablesAre}
 use Rattle.linear.proofs.CoefficientsLaws.{coefficient-beyond}
 use Rattle.linear.proofs.Counting.{every-same}
 use Rattle.linear.proofs.ListedLaws.{every-listed}
-
--- ---- integral coefficients
 
 abbrev pub integralAt : (ℕ → Fraction) → List Bool → ℕ → Bool
 integralAt coefficient integers v = mayStand (coefficient v) (marked integers v)
@@ -49,37 +37,3 @@ module _ (tree : Tree) (n : ℕ) (integers : List Bool) (are : VariablesAre tree
       → allOf (λ (t : Term). mayStand (t .coefficient) (marked integers (t .variable))) ts ≡ isIntegral tree c
   integral-listed ts formed e =
       every-listed n ts formed (λ (v : ℕ) (f : Fraction). mayStand f (marked integers v)) (λ v. refl) ∙ integral-is (valueIn ts) e
-
--- ---- right sides that are rounded
-
--- what a floor or a ceiling gives
-rounded-by : (right : Fraction) (z : ℤ) → IsFraction right → withRounding right (onFractions (isFraction right) (gives z)) ≡ wholeF z
-unfolding onFractions
-rounded-by right z v = ap (λ (t : Bool). withRounding right (cond t (gives z) (refuses 4))) (is-fraction right v)
-
-floor-abs : (n : ℤ) (d : ℕ) → natAbs (floorZ n d) ≤ natAbs n
-unfolding floorZ
-floor-abs (pos a) d = div-le-self a d
-floor-abs (negsuc a) d = omega (arith, div-le-self a d)
-
-ceiling-abs : (n : ℤ) (d : ℕ) → natAbs (ceilingZ n d) ≤ natAbs n
-unfolding ceilingZ
-ceiling-abs n d = omega (arith, natAbs-neg (floorZ (negℤ n) d), floor-abs (negℤ n) d, natAbs-neg n)
-
-whole-is : (z : ℤ) → natAbs z ≤ limit → IsFraction (wholeF z)
-whole-is z h = record { positive = record { lt = tt }; num-within = h; den-within = lit≤ tt; lowest-terms = eq-one-of-dvd-one (gcd-right (natAbs z) 1) }
-
-rounded-is : (s : Sense) (right : Fraction) → IsFraction right → IsFraction (roundedRight s right)
-rounded-is equal right v = v
-rounded-is atMost right v = whole-is (floorQ (exact right)) (omega (arith, floor-abs (right .num) (natAbs (right .den)), v .num-within))
-rounded-is atLeast right v = whole-is (ceilingQ (exact right)) (omega (arith, ceiling-abs (right .num) (natAbs (right .den)), v .num-within))
-
-pub rounded-to : (s : Sense) (right : Fraction) (z : ℤ) → roundedRight s right ≡ wholeF z → {r : Fraction} → r ≡ withRounding right (onFractions (isFraction right) (gives z))
-    → IsFraction right → (r ≡ roundedRight s right) × IsFraction r
-rounded-to s right z q {r} e v =
-    let is : r ≡ roundedRight s right = e ∙ rounded-by right z v ∙ sym q in
-    (is, subst IsFraction (sym is) (rounded-is s right v))
-
--- an equality is not rounded
-pub not-rounded : (s : Sense) (right : Fraction) → s ≡ equal → IsFraction right → (right ≡ roundedRight s right) × IsFraction right
-not-rounded s right e v = (ap (λ (t : Sense). roundedRight t right) (sym e), v)

@@ -1,19 +1,19 @@
 -- The coefficients of 256 variables, or a point's values, in two arrays: numerators and denominators. All cells are 0 at the
 -- start: a denominator 0, where nothing is stored yet, stands for 1. The variables beyond the arrays have the coefficient 0.
 -- Assumes nothing.
-use mathlib.Core.Bool.{Bool, false, cond, _&&_, _||_}
+use mathlib.Core.Bool.{Bool, false, cond, _&&_}
 use mathlib.Core.Path.{_≡_}
 use mathlib.Core.List.{List}
 use Prim.Native.Nat.{ℕ, _<_}
 use lib.Dec.{ltb}
 use lib.IntN.{ℤ, pos}
 use lib.ListN.{getD}
-use Rattle.arithmetic.specs.Fraction.{IsFraction, exact}
+use Rattle.arithmetic.specs.Fraction.{IsFraction}
 use Rattle.arithmetic.specs.Laws.{zeroF}
 use Rattle.arithmetic.specs.declared.Fraction.{Fraction}
 use Rattle.tables.specs.Limits.{mostVariables}
 use Rattle.grammar.specs.Tree.{Tree}
-use Rattle.rules.specs.Values.{sameZ, isWhole, isZero}
+use Rattle.rules.specs.Values.{sameZ}
 use Rattle.rules.specs.Rows.{variables}
 use Rattle.rules.specs.Rounding.{isInteger}
 
@@ -42,7 +42,3 @@ marked integers v = ltb v mostVariables && getD integers v false
 pub record VariablesAre (tree : Tree) (n : ℕ) (integers : List Bool) : Type 0 where
   pub number : variables tree ≡ n
   pub integer : (v : ℕ) → v < n → marked integers v ≡ isInteger tree v
-
--- whole, and "nonzero only at integer variables"
-abbrev pub mayStand : Fraction → Bool → Bool
-mayStand f integer = isWhole f && (isZero (exact f) || integer)

@@ -1,10 +1,7 @@
 -- Linear constraints over listed terms, in reading order: lists of variable and coefficient; coefficients in arrays; what the
--- code's senses, signs and combinations stand for; and the laws that those who check rows cite.
+-- code's combinations and comparisons stand for; and the laws that those who check rows cite.
 pub mod Lists
 pub mod Coefficients
 pub mod ListsLaws
-pub mod Senses
-pub mod Signs
 pub mod Combinations
 pub mod Comparing
-pub mod Rounding

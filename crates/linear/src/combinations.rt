@@ -7,9 +7,9 @@ ghost use Rattle.rules.specs.Combinations.{emptyCombination, nextCombination};
 ghost use Rattle.linear.specs.Lists.{termsIn};
 ghost use Rattle.linear.specs.Combinations.{combinationOf, combinationSays, HasFractions, Takes};
 use crate::lists;
-use crate::values;
 use arithmetic::Arithmetic;
 use arithmetic::Fraction;
+use senses::values;
 use tables::limits;
 
 // A running combination: the coefficient of each variable, the right side, and whether each product and sum was within the limit.

@@ -10,15 +10,14 @@ ghost use Rattle.rules.specs.Values.{isZero, isSame};
 ghost use Rattle.rules.specs.Rows.{valueIn};
 ghost use Rattle.rules.specs.Domination.{isAbsurd, dominates as dominatesOf};
 ghost use Rattle.rules.specs.Sentence.Formed.{Formed};
+ghost use Rattle.senses.specs.Senses.{constraintBy};
 ghost use Rattle.linear.specs.Lists.{termsIn};
 ghost use Rattle.linear.specs.Coefficients.{coefficientsOf, AreFractions};
-ghost use Rattle.linear.specs.Senses.{constraintBy};
 ghost use Rattle.linear.specs.Comparing.{nonzerosBelow, Compares};
 use crate::lists;
-use crate::senses;
-use crate::senses::Sense;
-use crate::values;
 use arithmetic::Fraction;
+use senses::Sense;
+use senses::values;
 
 // What is told of coefficients that are held against the listed terms of a row: whether they are equal to the row's, and whether
 // all are zero.

@@ -11,9 +11,9 @@ ghost use Rattle.rules.specs.Solutions.{leftSide};
 ghost use Rattle.linear.specs.Lists.{termsIn, TermsBelow};
 ghost use Rattle.linear.specs.Coefficients.{coefficientsOf, AreFractions};
 use crate::lists;
-use crate::values;
 use arithmetic::Arithmetic;
 use arithmetic::Fraction;
+use senses::values;
 
 // The left side of listed terms at a point, which has a value for each variable.
 pub fn left_of<'a>(

@@ -17,8 +17,8 @@ use Rattle.rules.specs.Result.{Result, done, refused, bind, require}
 use Rattle.rules.specs.Rows.{termsOf}
 use Rattle.rules.specs.Solutions.{leftSide, holds, checkRow}
 use Rattle.rules.specs.SolutionsLaws.{gives-left-side, left-side-fraction}
-use Rattle.linear.specs.Senses.{senseIs}
-use Rattle.linear.proofs.ArithmeticLaws.{says, is-refused}
+use Rattle.senses.specs.Senses.{senseIs}
+use Rattle.senses.proofs.ArithmeticLaws.{says, is-refused}
 use Rattle.encoding.specs.Rows.{RowIs}
 use Rattle.encoding.specs.declared.rows.ListedRow.{ListedRow}
 

@@ -8,14 +8,13 @@ ghost use Rattle.grammar.specs.Tree.{Direction, Tree};
 ghost use Rattle.rules.specs.Values.{within12};
 ghost use Rattle.rules.specs.Rows.{objective};
 ghost use Rattle.rules.specs.Solutions.{towards, leftSide};
-ghost use Rattle.linear.specs.Senses.{senseIs};
+ghost use Rattle.senses.specs.Senses.{senseIs};
 ghost use Rattle.encoding.specs.Encodes.{solutionAt, Encodes};
 ghost use Rattle.solutions.specs.Objectives.{BestIs, ObjectivesSay};
 use crate::points;
 use arithmetic::Arithmetic;
 use arithmetic::Fraction;
-use linear::senses;
-use linear::senses::Sense;
+use senses::Sense;
 use tables::Header;
 
 // The best objective so far, if there is any, and whether one of them reaches the bound.

@@ -5,8 +5,8 @@ use borrow.Author.Needs.{needs}
 use Rattle.arithmetic.specs.declared.Fraction.{Fraction}
 use Rattle.rules.specs.Derivations.{checkDominates}
 use Rattle.rules.specs.Sentence.Formed.{Formed}
+use Rattle.senses.specs.Senses.{constraintBy}
 use Rattle.linear.specs.Lists.{termsIn}
-use Rattle.linear.specs.Senses.{constraintBy}
 use Rattle.encoding.specs.Places.{termsAt}
 use Rattle.derivations.proofs.RowsLaws.{coefficients-are, coefficients-fractions}
 use Rattle.derivations.proofs.reasons.check_by_terms.Statement.{statement}

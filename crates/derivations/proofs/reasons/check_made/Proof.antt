@@ -8,8 +8,8 @@ use Rattle.grammar.specs.Tree.{Tree}
 use Rattle.rules.specs.Rows.{Constraint}
 use Rattle.rules.specs.Rounding.{canBeRounded, rounded}
 use Rattle.rules.specs.Derivations.{checkDominates}
+use Rattle.senses.specs.Senses.{constraintBy}
 use Rattle.linear.specs.Coefficients.{coefficientsOf, VariablesAre}
-use Rattle.linear.specs.Senses.{constraintBy}
 use Rattle.derivations.specs.Checks.{concluded}
 use Rattle.derivations.proofs.Refusals.{require-on, require-stop}
 use Rattle.derivations.proofs.reasons.check_made.Statement.{statement}

@@ -8,9 +8,9 @@ use Rattle.rules.specs.Tests.{everyBelow}
 use Rattle.rules.specs.Values.{isZero}
 use Rattle.rules.specs.Rows.{valueIn}
 use Rattle.rules.specs.Domination.{isAbsurd}
+use Rattle.senses.proofs.Truth.{and-first, and-neither}
 use Rattle.linear.specs.Lists.{termsIn}
 use Rattle.linear.proofs.ListedLaws.{every-listed}
-use Rattle.linear.proofs.Truth.{and-first, and-neither}
 use Rattle.linear.proofs.domination.is_absurd.Statement.{statement}
 use Rattle.linear.proofs.domination.is_absurd.Tie as tie
 

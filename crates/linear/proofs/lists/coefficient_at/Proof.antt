@@ -6,7 +6,7 @@ use lib.IntN.{ℤ, pos}
 use mir.Syntax.{w32}
 use mir.Val.{ofZ}
 use Rattle.integers.proofs.Casts.{back-of}
-use Rattle.linear.proofs.Numbers.{zero-of}
+use Rattle.senses.proofs.Numbers.{zero-of}
 use Rattle.linear.proofs.CoefficientsLaws.{aFraction, coefficient-beyond, read-none, read-some}
 use Rattle.linear.proofs.lists.coefficient_at.Statement.{statement}
 use Rattle.linear.proofs.lists.coefficient_at.Tie as tie

@@ -7,9 +7,10 @@ use borrow.Author.Needs.{needs}
 use Rattle.tables.specs.Pairs.{pairsIn}
 use Rattle.grammar.specs.Tree.{Term}
 use Rattle.rules.specs.Tests.{allOf}
+use Rattle.senses.specs.Rounding.{mayStand}
 use Rattle.linear.specs.Lists.{aTerm, termsIn}
 use Rattle.linear.specs.ListsLaws.{listedFrom, listed-next, listed-none}
-use Rattle.linear.specs.Coefficients.{marked, mayStand}
+use Rattle.linear.specs.Coefficients.{marked}
 use Rattle.linear.proofs.TestsLaws.{tests-on, tests-stop, tests-end}
 use Rattle.linear.proofs.RoundingLaws.{integral-listed}
 use Rattle.linear.proofs.rounding.are_integral.Statement.{statement}

@@ -6,7 +6,8 @@ use native.Mathlib.Omega.{arith}
 use borrow.Author.Tests.{not-true, not-false}
 use borrow.Author.Needs.{needs}
 use Rattle.rules.specs.Tests.{everyBelow}
-use Rattle.linear.specs.Coefficients.{coefficientsOf, mayStand}
+use Rattle.senses.specs.Rounding.{mayStand}
+use Rattle.linear.specs.Coefficients.{coefficientsOf}
 use Rattle.linear.proofs.TestsLaws.{every-on, every-stop, every-end}
 use Rattle.linear.proofs.RoundingLaws.{integralAt, integral-beyond, integral-is}
 use Rattle.linear.proofs.rounding.is_integral.Statement.{statement}

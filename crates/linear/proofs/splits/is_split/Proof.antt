@@ -7,10 +7,10 @@ use borrow.Author.Needs.{needs}
 use Rattle.grammar.specs.Tree.{Term}
 use Rattle.rules.specs.Rows.{valueIn, Constraint}
 use Rattle.rules.specs.Splits.{areAdjacent}
+use Rattle.senses.specs.Senses.{constraintBy}
 use Rattle.linear.specs.Coefficients.{coefficientsOf, AreFractions}
 use Rattle.linear.specs.Lists.{termsIn}
 use Rattle.linear.specs.ListsLaws.{formed-below, fractions-in}
-use Rattle.linear.specs.Senses.{constraintBy}
 use Rattle.linear.proofs.SplitsLaws.{not-adjacent, not-integral, split-by, same-are}
 use Rattle.linear.proofs.splits.is_split.Statement.{statement}
 use Rattle.linear.proofs.splits.is_split.Tie as tie

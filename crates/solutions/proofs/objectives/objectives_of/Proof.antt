@@ -7,7 +7,7 @@ use Rattle.rules.specs.Result.{refused}
 use Rattle.rules.specs.Rows.{objective}
 use Rattle.encoding.specs.Encodes.{solutionAt, Encodes}
 use Rattle.encoding.specs.EncodesLaws.{maximize-is, solutions-are}
-use Rattle.linear.proofs.ArithmeticLaws.{says, is-refused}
+use Rattle.senses.proofs.ArithmeticLaws.{says, is-refused}
 use Rattle.solutions.proofs.LeftSides.{left-fraction}
 use Rattle.solutions.proofs.ObjectivesLaws.{WorkedTo, worked-start, worked-on, worked-stop, worked-end}
 use borrow.Author.Needs.{needs}

@@ -6,9 +6,9 @@ use Prim.Native.Nat.{ℕ}
 use borrow.Author.Needs.{needs}
 use Rattle.arithmetic.specs.declared.Fraction.{Fraction}
 use Rattle.rules.specs.Domination.{isAbsurd, sameCoefficients, dominates}
-use Rattle.linear.specs.Senses.{constraintBy}
+use Rattle.senses.specs.Senses.{constraintBy}
+use Rattle.senses.proofs.Truth.{and-yes, and-no, or-yes, or-no}
 use Rattle.linear.specs.Comparing.{Compares}
-use Rattle.linear.proofs.Truth.{and-yes, and-no, or-yes, or-no}
 use Rattle.linear.proofs.domination.Compared.dominates.Statement.{statement}
 use Rattle.linear.proofs.domination.Compared.dominates.Tie as tie
 
