@@ -20,7 +20,8 @@ use Rattle.grammar.specs.Header.{headerOf}
 use Rattle.grammar.specs.Layout.{Mark, marks}
 use Rattle.grammar.specs.Tables.{filled, byTurns, indexTable, valueTable, rowTable}
 use Rattle.grammar.specs.Texts.{SpellsTree, Certificate, certificateOf, SpellsCertificate, ReadText, taken, refused, readOf}
-use Rattle.grammar.specs.Names.{Each, StandsIn}
+use Rattle.grammar.specs.Lists.{Each}
+use Rattle.grammar.specs.Names.{StandsIn}
 use Rattle.grammar.specs.AllNames.{markNames}
 use Rattle.grammar.specs.Rows.{RowAt}
 use Rattle.grammar.specs.Refusals.{refusalNumber}

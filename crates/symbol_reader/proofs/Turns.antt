@@ -12,7 +12,7 @@ use lib.Seq.{slice, slice-cons}
 use borrow.Author.Tests.{le-leb, lt-leb, leb-true, leb-false}
 use Rattle.text.specs.Bytes.{Bytes, every, same, isDigit, numberAfter}
 use Rattle.text.proofs.Parts.{part-none}
-use Rattle.grammar.specs.Spelling.{isAmong}
+use Rattle.grammar.specs.Reading.{isAmong}
 use Rattle.tables.specs.Limits.{largest}
 use Rattle.symbol_reader.specs.Steps.{nameAt}
 use Rattle.symbol_reader.specs.Leaves.{namesIn}
