@@ -24,6 +24,7 @@ use Rattle.rules.specs.Meets.{Meets}
 use Rattle.rules.specs.Agreement.{check-says}
 use Rattle.reader.specs.Promise as reading
 use Rattle.reader.specs.Promise.{Course, not-begun, begun, courseOf, tableOf, Begun, CertificateRead}
+use Rattle.reader.proofs.Courses.{begun-course, by-course}
 use Rattle.reader.specs.declared.Reading.{Reading}
 use Rattle.reader.specs.declared.Reading.the-variants as read
 use Rattle.encoding.specs.Held.{Held}
@@ -120,24 +121,28 @@ answered : (r : Verification) → verificationSays r ≡ verifies → r ≡ Veri
 answered Verified e = refl
 answered (Refused reason line) e = not-verified e
 
-pub exactly : (text : Bytes) (index : List ℕ) (values : List ℤ) (rows : List ℕ) (r : Verification)
-    → verificationSays r ≡ answerOf text (courseOf text (length index) (length values) (length rows))
-    → Begun text index values rows → (r ≡ Verified) ↔ ((tree : Tree) × SpellsTree text tree × Meets tree)
-exactly text index values rows r e b = (λ v. to (sym answer ∙ ap verificationSays v), λ h. answered r (answer ∙ from (h .0) (h .1) (h .2)))
-  where
-    answer : verificationSays r ≡ answerOf text (begun (readOf text))
-    answer =
-        e ∙ ap (answerOf text)
-        (course-begun text (length index) (length values) (length rows)
-        (true-and (leb indexCells (length index)) (leb valueCells (length values) && leb rowCells (length rows)) (le-leb _ _ (b .index-cells))
-        (true-and (leb valueCells (length values)) (leb rowCells (length rows)) (le-leb _ _ (b .value-cells)) (le-leb _ _ (b .row-cells))))
-        (le-leb _ _ (b .short)))
+module _ (text : Bytes) (index : List ℕ) (values : List ℤ) (rows : List ℕ) (r : Verification)
+    (e : verificationSays r ≡ answerOf text (courseOf text (length index) (length values) (length rows))) where
+  -- a text that is verified was begun to be read
+  verified-begun : r ≡ Verified → Begun text index values rows
+  verified-begun v =
+      by-course text index values rows (λ c. verifies ≡ answerOf text c → Begun text index values rows)
+      (λ q. not-verified (sym q)) (λ q. not-verified (sym q)) (λ b q. b) (sym (ap verificationSays v) ∙ e)
 
-    to : answerOf text (begun (readOf text)) ≡ verifies → (tree : Tree) × SpellsTree text tree × Meets tree
-    to v = let p = passes text (readOf text) refl v in (p .tree, read-sound text (p .tree) (p .reads), check-says (p .tree) .0 (p .checked))
+  answered-begun : Begun text index values rows → verificationSays r ≡ answerOf text (begun (readOf text))
+  answered-begun b = e ∙ ap (answerOf text) (begun-course text index values rows b)
 
-    from : (tree : Tree) → SpellsTree text tree → Meets tree → answerOf text (begun (readOf text)) ≡ verifies
-    from tree s m = ap (λ (x : ReadText). answerOf text (begun x)) (read-complete text tree s) ∙ ap (checkedSays text) (check-says tree .1 m)
+  meets : answerOf text (begun (readOf text)) ≡ verifies → (tree : Tree) × SpellsTree text tree × Meets tree
+  meets v = let p = passes text (readOf text) refl v in (p .tree, read-sound text (p .tree) (p .reads), check-says (p .tree) .0 (p .checked))
+
+  verifies-it : (tree : Tree) → SpellsTree text tree → Meets tree → answerOf text (begun (readOf text)) ≡ verifies
+  verifies-it tree s m = ap (λ (x : ReadText). answerOf text (begun x)) (read-complete text tree s) ∙ ap (checkedSays text) (check-says tree .1 m)
+
+  pub exactly : (r ≡ Verified) ↔ (Begun text index values rows × ((tree : Tree) × SpellsTree text tree × Meets tree))
+  exactly = (
+    λ v. let b = verified-begun v in (b, meets (sym (answered-begun b) ∙ ap verificationSays v)),
+    λ h. answered r (answered-begun (h .0) ∙ verifies-it (h .1 .0) (h .1 .1) (h .1 .2)),
+  )
 
 -- ---- the promise, from reading's
 
@@ -146,12 +151,9 @@ module _ {text : Bytes} {index : List ℕ} {values : List ℤ} {rows : List ℕ}
   -- the answer is the one of 01; reading left the tables
   promised : (a : Verification) → verificationSays a ≡ answerOf text (courseOf text (length index) (length values) (length rows)) → CertificateVerified text index values rows index′ values′ rows′ a
   promised a answer =
-      let q = h .equations in
       record {
         answer = answer;
-        index-table = q .index-table;
-        value-table = q .value-table;
-        row-table = q .row-table;
+        tables = h .tables;
         verified-exactly = exactly text index values rows a answer;
         verified-means = λ v. verified-means text (length index) (length values) (length rows) (sym answer ∙ ap verificationSays v);
       }
@@ -159,13 +161,13 @@ module _ {text : Bytes} {index : List ℕ} {values : List ℤ} {rows : List ℕ}
   -- reading refused
   pub refused-verified : (reason : Refusal) (line : ℕ) → r ≡ read.Refused reason line → CertificateVerified text index values rows index′ values′ rows′ (Refused reason line)
   refused-verified reason line e =
-      promised (Refused reason line) (refused-reading text (courseOf text (length index) (length values) (length rows)) (sym (ap reading.readingSays e) ∙ h .equations .answer))
+      promised (Refused reason line) (refused-reading text (courseOf text (length index) (length values) (length rows)) (sym (ap reading.readingSays e) ∙ h .answer))
 
   module _ (li : length index′ ≡ length index) (lv : length values′ ≡ length values) (lr : length rows′ ≡ length rows) (header : Header) (e : r ≡ read.Taken header) where
     the-tree : TakenHeld text index values rows index′ values′ rows′ header
     the-tree =
-        let q = h .equations in
-        taken-held text index values rows index′ values′ rows′ header (sym (ap reading.readingSays e) ∙ q .answer) (q .index-table) (q .value-table) (q .row-table) li lv lr
+        let q = h .tables in
+        taken-held text index values rows index′ values′ rows′ header (sym (ap reading.readingSays e) ∙ h .answer) (q .index-table) (q .value-table) (q .row-table) li lv lr
 
     -- the tables encode what was read, under its header, and it was checked
     pub checked-verified : {v w : Verdict} (a : Verification) → ((tree : Tree) → Encodes tree header index′ values′ rows′ → verdictSays v ≡ checkOf tree)
