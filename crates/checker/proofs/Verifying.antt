@@ -1,19 +1,14 @@
 -- From reading to verifying: what a taken text leaves in the tables, and what the answer says of what is spelled.
 -- Assumes nothing.
 use mathlib.Core.Path.{_≡_, refl, sym, _∙_, ap, subst}
-use mathlib.Core.Bool.{Bool, true, false, cond, _&&_}
 use mathlib.Core.List.{List}
 use mathlib.Core.Logic.{_↔_}
 use Prim.Native.Nat.{ℕ}
 use native.Mathlib.Omega.{arith}
-use borrow.Author.Tests.{leb-true, le-leb}
-use lib.Dec.{leb}
 use lib.IntN.{ℤ, pos}
 use lib.ListN.{length}
 use Rattle.text.specs.Bytes.{Bytes}
 use Rattle.tables.specs.declared.Header.{Header}
-use Rattle.tables.specs.Limits.{indexCells, valueCells, rowCells, hasCells, isShort}
-use Rattle.arithmetic.specs.Meaning.{and-true, true-and}
 use Rattle.grammar.specs.Tree.{Tree}
 use Rattle.grammar.specs.Header.{headerOf}
 use Rattle.grammar.specs.Tables.{indexTable, valueTable, rowTable}
@@ -42,6 +37,9 @@ use Rattle.checker.specs.declared.Verification.the-variants.{Verified, R
 not-taken : {X : Type 0} {n l : ℕ} {h : Header} → reading.takes h ≡ reading.refuses n l → X
 not-taken e = absurd (let z : _≡_ {A = ℕ} 0 1 = cc in omega arith)
 
+not-begun-so : {X : Type 0} {n : ℕ} {read : ReadText} → not-begun n ≡ begun read → X
+not-begun-so e = absurd (let z : _≡_ {A = ℕ} 0 1 = cc in omega arith)
+
 -- a refusal of reading is the refusal of verifying
 pub refused-reading : (text : Bytes) (course : Course) {n l : ℕ} → reading.refuses n l ≡ reading.answerOf text course → refuses n l ≡ answerOf text course
 refused-reading text (not-begun reason) e = cc
@@ -60,30 +58,15 @@ taken-answer text (not-begun reason) header e = not-taken e
 taken-answer text (begun (taken tree)) header e = record { tree = tree; course-is = refl; header-is = cc }
 taken-answer text (begun (refused reason place)) header e = not-taken e
 
--- the course of a reading that was begun
-module _ (text : Bytes) (i v r : ℕ) where
-  course-begun : hasCells i v r ≡ true → isShort text ≡ true → courseOf text i v r ≡ begun (readOf text)
-  course-begun c s =
-      ap (λ (b : Bool). cond b (cond (isShort text) (begun (readOf text)) (not-begun 2)) (not-begun 1)) c
-      ∙ ap (λ (b : Bool). cond b (begun (readOf text)) (not-begun 2)) s
-
-  pub record BegunWith (read : ReadText) : Type 0 where
-    pub has-cells : hasCells i v r ≡ true
-    pub short : isShort text ≡ true
-    pub reads : readOf text ≡ read
-
-  begun-course : (read : ReadText) → courseOf text i v r ≡ begun read → BegunWith read
-  begun-course read e = go (hasCells i v r) (isShort text) refl refl e
-    where
-      go : (b c : Bool) → hasCells i v r ≡ b → isShort text ≡ c → cond b (cond c (begun (readOf text)) (not-begun 2)) (not-begun 1) ≡ begun read → BegunWith read
-      go true true p q f = record { has-cells = p; short = q; reads = cc }
-      go true false p q f = absurd (let z : _≡_ {A = ℕ} 0 1 = cc in omega arith)
-      go false c p q f = absurd (let z : _≡_ {A = ℕ} 0 1 = cc in omega arith)
-
 -- the tables of a text that was taken hold the tree that it spells
 module _ (text : Bytes) (index : List ℕ) (values : List ℤ) (rows : List ℕ) (index′ : List ℕ) (values′ : List ℤ) (rows′ : List ℕ) where
   abbrev course : Course
   course = courseOf text (length index) (length values) (length rows)
+
+  -- the course of a reading that was begun
+  was-begun : (read : ReadText) → course ≡ begun read → Begun text index values rows × (readOf text ≡ read)
+  was-begun read e =
+      by-course text index values rows (λ c. c ≡ begun read → Begun text index values rows × (readOf text ≡ read)) (λ q. not-begun-so q) (λ q. not-begun-so q) (λ b q. (b, cc)) e
 
   pub record TakenHeld (header : Header) : Type 0 where
     pub tree : Tree
@@ -97,9 +80,7 @@ module _ (text : Bytes) (index : List ℕ) (values : List ℤ) (rows : List ℕ)
       → TakenHeld header
   taken-held header e ei ev er li lv lr =
       let t = taken-answer text course header e in
-      let b = begun-course text (length index) (length values) (length rows) (taken (t .tree)) (t .course-is) in
-      let c = and-true (leb indexCells (length index)) (leb valueCells (length values) && leb rowCells (length rows)) (b .has-cells) in
-      let q = leb-true rowCells (length rows) (and-true (leb valueCells (length values)) (leb rowCells (length rows)) (c .1) .1) in
+      let b = was-begun (taken (t .tree)) (t .course-is) in
       record {
         tree = t .tree;
         course-is = t .course-is;
@@ -107,11 +88,11 @@ module _ (text : Bytes) (index : List ℕ) (values : List ℤ) (rows : List ℕ)
         held =
             record {
               text = text;
-              spelled = read-sound text (t .tree) (b .reads);
+              spelled = read-sound text (t .tree) (b .1);
               index-is = ei ∙ ap (tableOf 0 indexTable index) (t .course-is) ∙ ap (λ (n : ℕ). indexTable n (t .tree)) (sym li);
               values-is = ev ∙ ap (tableOf (pos 0) valueTable values) (t .course-is) ∙ ap (λ (n : ℕ). valueTable n (t .tree)) (sym lv);
               rows-is = er ∙ ap (tableOf 0 rowTable rows) (t .course-is) ∙ ap (λ (n : ℕ). rowTable n (t .tree)) (sym lr);
-              row-cells = omega (arith, lr);
+              row-cells = omega (arith, lr, b .0 .row-cells);
             };
       }
 
