@@ -3,7 +3,7 @@
 -- Assumes nothing.
 use mathlib.Core.Path.{_≡_}
 use mathlib.Core.Bool.{Bool, true, false, cond, not, _&&_}
-use Prim.Native.Nat.{ℕ, _≤_}
+use Prim.Native.Nat.{ℕ, _≤_, _∣_}
 use lib.Dec.{leb, eqb}
 use lib.IntN.{ℤ, pos, natAbs, _*ℤ_}
 use lib.Signed.{ltZ, _<ℤ_}
@@ -24,12 +24,13 @@ use Rattle.arithmetic.specs.declared.Rounding.the-variants as rounding
 abbrev pub limit : ℕ
 limit = 2147483647
 
--- "a fraction in lowest terms within the limit": in words, and as a test
+-- "a fraction in lowest terms within the limit": in words, where lowest terms are that no whole number but 1 divides both
+-- parts, and as a test
 pub record IsFraction (f : Fraction) : Type 0 where
   pub positive : pos 0 <ℤ f .den
   pub num-within : natAbs (f .num) ≤ limit
   pub den-within : natAbs (f .den) ≤ limit
-  pub lowest-terms : gcd (natAbs (f .num)) (natAbs (f .den)) ≡ 1
+  pub lowest-terms : (k : ℕ) → k ∣ natAbs (f .num) → k ∣ natAbs (f .den) → k ≡ 1
 
 unfoldable pub isFraction : Fraction → Bool
 isFraction f =

@@ -3,10 +3,9 @@
 use mathlib.Core.Path.{_≡_, refl, sym, _∙_, ap}
 use mathlib.Core.Bool.{Bool, true, false, _&&_}
 use Prim.Native.Nat.{ℕ, _*_}
-use native.Mathlib.Nat.{mul-comm, mul-one, one-mul}
+use native.Mathlib.Nat.{mul-comm, mul-one, one-mul, eq-one-of-dvd-one}
 use lib.Dec.{lit≤}
 use lib.IntN.{ℤ, pos, natAbs, _+ℤ_, _*ℤ_, *ℤ-comm, *ℤ-zero, zero-*ℤ, +ℤ-comm, +ℤ-idr}
-use Rattle.integers.specs.Gcd.{gcd, euclid}
 use Rattle.integers.specs.Integers.{*ℤ-pos-one, one-*ℤ}
 use Rattle.arithmetic.specs.Outcome.{Outcome, gives, refuses}
 use Rattle.arithmetic.specs.Quotient.{Quotient, _≈_, _+Q_, _*Q_, lowest}
@@ -43,12 +42,10 @@ abbrev pub oneF : Fraction
 oneF = record { num = pos 1; den = pos 1 }
 
 pub zero-is : IsFraction zeroF
-unfolding gcd euclid
-zero-is = record { positive = record { lt = tt }; num-within = lit≤ tt; den-within = lit≤ tt; lowest-terms = refl }
+zero-is = record { positive = record { lt = tt }; num-within = lit≤ tt; den-within = lit≤ tt; lowest-terms = λ k p q. eq-one-of-dvd-one q }
 
 pub one-is : IsFraction oneF
-unfolding gcd euclid
-one-is = record { positive = record { lt = tt }; num-within = lit≤ tt; den-within = lit≤ tt; lowest-terms = refl }
+one-is = record { positive = record { lt = tt }; num-within = lit≤ tt; den-within = lit≤ tt; lowest-terms = λ k p q. eq-one-of-dvd-one q }
 
 module _ (a : Fraction) (v : IsFraction a) where
   pub sum-zero : sumOf a zeroF ≡ gives a

@@ -14,6 +14,7 @@ use lib.IntN.{ℤ, pos, negsuc, natAbs, _*ℤ_}
 use lib.Signed.{ltZ, ltZ-no, _≤ℤ_, _<ℤ_}
 use Rattle.integers.specs.Integers.{≤ℤ-antisym}
 use Rattle.integers.specs.Gcd.{gcd}
+use Rattle.integers.specs.Coprime.{Coprime, coprime-of, coprime-common}
 use Rattle.integers.specs.Signs.{withSign}
 use Rattle.arithmetic.specs.Outcome.{Outcome, gives, refuses}
 use Rattle.arithmetic.specs.Quotient.{Quotient, _≈_, _≤Q_, _<Q_, _+Q_, _*Q_, wholeQ, lowest, floorQ, ceilingQ}
@@ -44,8 +45,12 @@ fraction-is f e =
       positive = record { lt = subst T (sym (p .0)) tt };
       num-within = leb-true _ _ (q .0);
       den-within = leb-true _ _ (r .0);
-      lowest-terms = eqb-true _ _ (r .1);
+      lowest-terms = λ k. coprime-common (natAbs (f .num)) (natAbs (f .den)) k (eqb-true _ _ (r .1));
     }
+
+-- in lowest terms: the greatest common divisor is 1
+pub parts-coprime : (f : Fraction) → IsFraction f → Coprime (natAbs (f .num)) (natAbs (f .den))
+parts-coprime f v = coprime-of (natAbs (f .num)) (natAbs (f .den)) (v .lowest-terms)
 
 pub truth : (b : Bool) → T b → b ≡ true
 truth true t = refl
@@ -54,7 +59,7 @@ truth false t = absurd t
 pub is-fraction : (f : Fraction) → IsFraction f → isFraction f ≡ true
 unfolding isFraction
 is-fraction f v =
-    rw (truth (ltZ (pos 0) (f .den)) (v .positive .lt), le-leb (natAbs (f .num)) limit (v .num-within), le-leb (natAbs (f .den)) limit (v .den-within), eq-eqb _ 1 (v .lowest-terms))
+    rw (truth (ltZ (pos 0) (f .den)) (v .positive .lt), le-leb (natAbs (f .num)) limit (v .num-within), le-leb (natAbs (f .den)) limit (v .den-within), eq-eqb _ 1 (parts-coprime f v))
 
 -- a fraction's denominator is its magnitude, and positive
 pub den-is : (f : Fraction) → IsFraction f → f .den ≡ pos (natAbs (f .den))
@@ -74,7 +79,7 @@ exact-positive f v = go (f .den) (v .positive)
 -- fractions that stand for one rational number are one
 pub exact-unique : (f g : Fraction) → IsFraction f → IsFraction g → exact f ≈ exact g → f ≡ g
 exact-unique f g v w e =
-    let same : exact f ≡ exact g = lowest-terms-unique (exact f) (exact g) (exact-positive f v) (exact-positive g w) (v .lowest-terms) (w .lowest-terms) e in
+    let same : exact f ≡ exact g = lowest-terms-unique (exact f) (exact g) (exact-positive f v) (exact-positive g w) (parts-coprime f v) (parts-coprime g w) e in
     let nums : f .num ≡ g .num = ap (λ (x : Quotient). x .top) same in
     let dens : f .den ≡ g .den = den-is f v ∙ ap (λ (x : Quotient). pos (x .bottom)) same ∙ sym (den-is g w) in
     ap₂ {A = ℤ} {B = ℤ} {C = Fraction} (λ n d. record { num = n; den = d }) nums dens
@@ -95,7 +100,7 @@ module _ (x : Quotient) (h : Positive x) where
         positive = record { lt = subst T (sym (lt-ltb 0 (low .bottom) (lowest-positive x h))) tt };
         num-within = leb-true _ _ (p .0);
         den-within = leb-true _ _ (p .1);
-        lowest-terms = lowest-coprime x h;
+        lowest-terms = λ k. coprime-common (natAbs (low .top)) (low .bottom) k (lowest-coprime x h);
       }
 
   -- a fraction that is given is one, and equals x
@@ -111,7 +116,7 @@ module _ (x : Quotient) (h : Positive x) where
   pub within-complete : (f : Fraction) → IsFraction f → exact f ≈ x → within (lowest x) ≡ gives f
   unfolding within
   within-complete f v e =
-      let same : low ≡ exact f = lowest-is x (exact f) h (exact-positive f v) (v .lowest-terms) e in
+      let same : low ≡ exact f = lowest-is x (exact f) h (exact-positive f v) (parts-coprime f v) e in
       rw (same, le-leb (natAbs (f .num)) limit (v .num-within), le-leb (natAbs (f .den)) limit (v .den-within), ← den-is f v)
 
   -- 12 is all that is ever refused, ..
