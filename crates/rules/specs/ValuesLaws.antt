@@ -16,7 +16,7 @@ use Rattle.arithmetic.specs.Outcome.{Outcome, gives, refuses}
 use Rattle.arithmetic.specs.Quotient.{Quotient, _≈_, _≤Q_, _<Q_, wholeQ}
 use Rattle.arithmetic.specs.QuotientLaws.{≈-refl, ≈-sym, ≤Q-total, ≤Q-of-≈, ≤Q-of-<, <Q-clash, lowest-terms-unique}
 use Rattle.arithmetic.specs.Fraction.{IsFraction, exact, Order, orderQ, productOf, sumOf, compareOf}
-use Rattle.arithmetic.specs.Meaning.{product-means, sum-means, Says, order-says, compare-answers, den-is, exact-positive, exact-unique}
+use Rattle.arithmetic.specs.Meaning.{product-means, sum-means, Says, order-says, compare-answers, den-is, parts-coprime, exact-positive, exact-unique}
 use Rattle.arithmetic.specs.declared.Fraction.{Fraction}
 use Rattle.rules.specs.Tests.{Decides, not-true, decides-as, decides-equal, decides-not}
 use Rattle.rules.specs.Result.{refused, Gives, no-value, done-same}
@@ -53,7 +53,7 @@ whole-exact f v = (to, from)
 
     from : (z : ℤ) × (exact f ≈ wholeQ z) → Whole f
     from w =
-        let one : exact f ≡ wholeQ (w .0) = lowest-terms-unique (exact f) (wholeQ (w .0)) (exact-positive f v) (omega arith) (v .lowest-terms) (eq-one-of-dvd-one (gcd-right (natAbs (w .0)) 1)) (w .1) in
+        let one : exact f ≡ wholeQ (w .0) = lowest-terms-unique (exact f) (wholeQ (w .0)) (exact-positive f v) (omega arith) (parts-coprime f v) (eq-one-of-dvd-one (gcd-right (natAbs (w .0)) 1)) (w .1) in
         decides-whole f .0 (decides-same-integer (f .den) (pos 1) .1 (den-is f v ∙ ap (λ (x : Quotient). pos (x .bottom)) one))
 
 -- ---- signs
