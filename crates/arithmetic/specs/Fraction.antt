@@ -69,13 +69,15 @@ productOf a b = onFractions (isFraction a && isFraction b) (within (lowest (exac
 abbrev pub sumOf : Fraction → Fraction → Outcome Fraction
 sumOf a b = onFractions (isFraction a && isFraction b) (within (lowest (exact a +Q exact b)))
 
--- a sum and a product more: the product, then the sum with what it gives
+-- what follows an outcome that gives a fraction; a refusal stays
 abbrev pub after : Outcome Fraction → (Fraction → Outcome Fraction) → Outcome Fraction
 after (gives p) next = next p
 after (refuses n) next = refuses n
 
+-- "(product, then sum for that variable)": a sum and a product more. 4 if one of the three is no fraction; else the product, then
+-- the sum with what it gives, and 12 at the first too wide
 abbrev pub addProductOf : Fraction → Fraction → Fraction → Outcome Fraction
-addProductOf sum a b = after (productOf a b) (sumOf sum)
+addProductOf sum a b = onFractions (isFraction sum && (isFraction a && isFraction b)) (after (productOf a b) (sumOf sum))
 
 -- "Comparisons are exact, never 12"
 pub data Order : Type 0 where

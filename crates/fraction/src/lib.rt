@@ -94,6 +94,13 @@ fn both(a: Fraction, b: Fraction) -> bool
     }
 }
 
+// Whether three pairs are fractions.
+fn all_three(a: Fraction, b: Fraction, c: Fraction) -> bool
+    ensures { λ r. ⌜ r ≡ isFraction a && (isFraction b && isFraction c) ⌝ }
+{
+    if is_fraction(a) { both(b, c) } else { false }
+}
+
 // ---- product and sum
 
 // The result q of a and b brought to lowest terms, if a and b are in lowest terms: three greatest common divisors in one loop.
@@ -200,12 +207,8 @@ pub fn reduced(negative: bool, n: u64, d: u64) -> Arithmetic
 pub fn add_product(sum: Fraction, a: Fraction, b: Fraction) -> Arithmetic
     ensures { λ r. ⌜ arithmeticSays r ≡ addProductOf sum a b ⌝ }
 {
-    let p = product(a, b);
-    let Arithmetic::Value(v) = p else {
-        return p;
-    };
-    if is_fraction(sum) {
-        arithmetic::sum(sum, v)
+    if all_three(sum, a, b) {
+        arithmetic::add_product(sum, a, b)
     } else {
         Arithmetic::NotAFraction
     }
