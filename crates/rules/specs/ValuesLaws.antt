@@ -94,12 +94,12 @@ module _ (a b : Fraction) where
           go : (o : Outcome Order) → compareOf a b ≡ o → passes test o ≡ true → Compared R a b
           go (gives o) e t =
               let p = compare-answers a b .gives-it o .0 e in
-              record { fractions = p .0; compared = d o (subst (Says (exact a) (exact b)) (p .1) (order-says (exact a) (exact b))) .0 t }
+              record { fractions = p .0; compared = d o (p .1) .0 t }
           go (refuses n) e t = not-true t
 
       enough : Compared R a b → passes test (compareOf a b) ≡ true
       enough c =
-          ap (passes test) (compare-answers a b .gives-it (orderQ (exact a) (exact b)) .1 (c .fractions, refl))
+          ap (passes test) (compare-answers a b .gives-it (orderQ (exact a) (exact b)) .1 (c .fractions, order-says (exact a) (exact b)))
           ∙ d (orderQ (exact a) (exact b)) (order-says (exact a) (exact b)) .1 (c .compared)
 
   pub decides-at-most : Decides (isAtMost a b) (AtMost a b)
