@@ -8,8 +8,9 @@ ghost use lib.Dec.{eqb};
 ghost use lib.IntN.{natAbs};
 ghost use Rattle.integers.specs.Gcd.{gcd as gcdOf};
 ghost use Rattle.arithmetic.specs.Quotient.{lowest};
-ghost use Rattle.arithmetic.specs.Fraction.{isFraction, ratioOf, onFractions, within as withinOf, reducedOf, productOf, sumOf, addProductOf, compareOf, floorOf, ceilingOf, arithmeticSays, comparisonSays, roundingSays};
+ghost use Rattle.arithmetic.specs.Fraction.{isFraction, ratioOf, onFractions, within as withinOf, arithmeticSays, comparisonSays, roundingSays};
 ghost use Rattle.arithmetic.specs.Parts.{isShaped};
+ghost use Rattle.fraction.specs.Promise.{ProductMeant, SumMeant, ReducedMeant, AddProductMeant, ComparisonMeant, FloorMeant, CeilingMeant};
 ghost use Rattle.fraction.specs.Results.{inLowestTerms, ResultOf};
 pub use arithmetic::Arithmetic;
 pub use arithmetic::Comparison;
@@ -177,7 +178,7 @@ fn lowest_result(a: Fraction, b: Fraction, q: Ratio) -> Arithmetic
 }
 
 pub fn product(a: Fraction, b: Fraction) -> Arithmetic
-    ensures { λ r. ⌜ arithmeticSays r ≡ productOf a b ⌝ }
+    ensures { λ r. ⌜ ProductMeant a b (arithmeticSays r) ⌝ }
 {
     if both_shaped(a, b) {
         lowest_result(a, b, arithmetic::multiplied(a, b))
@@ -187,7 +188,7 @@ pub fn product(a: Fraction, b: Fraction) -> Arithmetic
 }
 
 pub fn sum(a: Fraction, b: Fraction) -> Arithmetic
-    ensures { λ r. ⌜ arithmeticSays r ≡ sumOf a b ⌝ }
+    ensures { λ r. ⌜ SumMeant a b (arithmeticSays r) ⌝ }
 {
     if both_shaped(a, b) {
         lowest_result(a, b, arithmetic::added(a, b))
@@ -198,14 +199,14 @@ pub fn sum(a: Fraction, b: Fraction) -> Arithmetic
 
 // n / d, negated if asked, brought to lowest terms. No fraction has the denominator 0.
 pub fn reduced(negative: bool, n: u64, d: u64) -> Arithmetic
-    ensures { λ r. ⌜ arithmeticSays r ≡ reducedOf negative n d ⌝ }
+    ensures { λ r. ⌜ ReducedMeant negative n d (arithmeticSays r) ⌝ }
 {
     arithmetic::reduced(negative, n, d)
 }
 
 // A sum and a product more: a * b, then sum + a * b, each brought to lowest terms within the limit.
 pub fn add_product(sum: Fraction, a: Fraction, b: Fraction) -> Arithmetic
-    ensures { λ r. ⌜ arithmeticSays r ≡ addProductOf sum a b ⌝ }
+    ensures { λ r. ⌜ AddProductMeant sum a b (arithmeticSays r) ⌝ }
 {
     if all_three(sum, a, b) {
         arithmetic::add_product(sum, a, b)
@@ -217,7 +218,7 @@ pub fn add_product(sum: Fraction, a: Fraction, b: Fraction) -> Arithmetic
 // ---- comparison and rounding
 
 pub fn compare(a: Fraction, b: Fraction) -> Comparison
-    ensures { λ r. ⌜ comparisonSays r ≡ compareOf a b ⌝ }
+    ensures { λ r. ⌜ ComparisonMeant a b (comparisonSays r) ⌝ }
 {
     if both(a, b) {
         arithmetic::compare(a, b)
@@ -227,7 +228,7 @@ pub fn compare(a: Fraction, b: Fraction) -> Comparison
 }
 
 pub fn floor(a: Fraction) -> Rounding
-    ensures { λ r. ⌜ roundingSays r ≡ floorOf a ⌝ }
+    ensures { λ r. ⌜ FloorMeant a (roundingSays r) ⌝ }
 {
     if is_fraction(a) {
         arithmetic::floor(a)
@@ -237,7 +238,7 @@ pub fn floor(a: Fraction) -> Rounding
 }
 
 pub fn ceiling(a: Fraction) -> Rounding
-    ensures { λ r. ⌜ roundingSays r ≡ ceilingOf a ⌝ }
+    ensures { λ r. ⌜ CeilingMeant a (roundingSays r) ⌝ }
 {
     if is_fraction(a) {
         arithmetic::ceiling(a)
