@@ -1,4 +1,4 @@
--- Fractions within the limit, and the five operations on them (document 01, "Reasons of refusal" and "Solutions, then
+-- Fractions within the limit, and the operations on them (document 01, "Reasons of refusal" and "Solutions, then
 -- derivations"): what each gives or refuses, for every pair of numbers whatever.
 -- Assumes nothing.
 use mathlib.Core.Path.{_≡_}

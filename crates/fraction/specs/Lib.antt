@@ -1,3 +1,3 @@
--- What the public functions promise, and what the private ones are given of the result of a product or a sum.
+-- What the public functions promise; then the terms of contracts that no caller sees.
 pub mod Promise
 pub mod Results

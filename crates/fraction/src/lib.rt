@@ -1,6 +1,6 @@
 // Values within the limit: fractions in lowest terms, whose numerator and denominator have magnitudes of at most
-// 2,147,483,647, with product, sum, comparison, floor and ceiling. No public function asks anything of its caller: operands
-// that are no fractions are refused.
+// 2,147,483,647, with product, sum, a sum and a product more, comparison, floor and ceiling, and any quotient of whole numbers
+// brought to such a fraction. No public function asks anything of its caller: operands that are no fractions are refused.
 ghost use mathlib.Core.Path.{_≡_};
 ghost use mathlib.Core.Bool.{_&&_};
 ghost use Prim.Native.Nat.{_<_, _∣_};
@@ -34,7 +34,7 @@ fn parts(f: Fraction) -> Pair
     }
 }
 
-// Whether numerator and denominator have no common divisors. A whole number needs no greatest common divisor.
+// Whether a pair is in lowest terms. A whole number needs no greatest common divisor.
 fn is_lowest(f: Fraction) -> bool
     ensures { λ r. ⌜ r ≡ inLowestTerms f ⌝ }
 {
@@ -68,7 +68,7 @@ fn both_shaped(a: Fraction, b: Fraction) -> bool
     }
 }
 
-// Whether two pairs have no common divisors. Where neither is whole, one loop tells it of both.
+// Whether two pairs are in lowest terms. Where neither is whole, one loop tells it of both.
 fn both_lowest(a: Fraction, b: Fraction) -> bool
     ensures { λ r. ⌜ r ≡ inLowestTerms a && inLowestTerms b ⌝ }
 {
