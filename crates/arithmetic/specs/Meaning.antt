@@ -383,20 +383,20 @@ pub ceiling-is : (x : Quotient) → Positive x → IsCeiling x (ceilingQ x)
 ceiling-is x h = record { above = ceiling-above x h; least = ceiling-least x h }
 
 -- there is one
-pub floor-only : (x : Quotient) (y z : ℤ) → IsFloor x y → IsFloor x z → y ≡ z
-floor-only x y z f g = ≤ℤ-antisym y z (g .greatest y (f .below)) (f .greatest z (g .below))
+pub floor-one : (x : Quotient) (y z : ℤ) → IsFloor x y → IsFloor x z → y ≡ z
+floor-one x y z f g = ≤ℤ-antisym y z (g .greatest y (f .below)) (f .greatest z (g .below))
 
-pub ceiling-only : (x : Quotient) (y z : ℤ) → IsCeiling x y → IsCeiling x z → y ≡ z
-ceiling-only x y z f g = ≤ℤ-antisym y z (f .least z (g .above)) (g .least y (f .above))
+pub ceiling-one : (x : Quotient) (y z : ℤ) → IsCeiling x y → IsCeiling x z → y ≡ z
+ceiling-one x y z f g = ≤ℤ-antisym y z (f .least z (g .above)) (g .least y (f .above))
 
 pub floor-answers : (a : Fraction) → Answers (IsFraction a) (IsFloor (exact a)) (floorOf a)
 floor-answers a =
     let x = exact a in
     answers (isFraction a) (floorQ x) (fraction-is a, is-fraction a) (λ v. floor-is x (exact-positive a v))
-    (λ v z. floor-only x (floorQ x) z (floor-is x (exact-positive a v)))
+    (λ v z. floor-one x (floorQ x) z (floor-is x (exact-positive a v)))
 
 pub ceiling-answers : (a : Fraction) → Answers (IsFraction a) (IsCeiling (exact a)) (ceilingOf a)
 ceiling-answers a =
     let x = exact a in
     answers (isFraction a) (ceilingQ x) (fraction-is a, is-fraction a) (λ v. ceiling-is x (exact-positive a v))
-    (λ v z. ceiling-only x (ceilingQ x) z (ceiling-is x (exact-positive a v)))
+    (λ v z. ceiling-one x (ceilingQ x) z (ceiling-is x (exact-positive a v)))
