@@ -7,7 +7,7 @@ use lib.IntN.{ℤ}
 use Rattle.arithmetic.specs.Quotient.{_≈_, floorQ, ceilingQ}
 use Rattle.arithmetic.specs.QuotientLaws.{Positive}
 use Rattle.arithmetic.specs.Fraction.{exact}
-use Rattle.arithmetic.specs.Meaning.{floor-is, ceiling-is, floor-only, ceiling-only}
+use Rattle.arithmetic.specs.Meaning.{IsFloor, IsCeiling, floor-is, ceiling-is, floor-one, ceiling-one}
 use Rattle.grammar.specs.Tree.{Sense, equal, atMost, atLeast, Tree}
 use Rattle.rules.specs.Tests.{Decides, decides-as, decides-and, decides-not, decides-unless, decides-equal, decides-some, decides-below}
 use Rattle.rules.specs.Values.{wholeF, Whole, zeroQ}
@@ -49,8 +49,8 @@ rounded-is c p n d = ((λ e. subst (Rounded c) e is), enough)
 
     only : (s : Sense) (z : ℤ) → RoundsTo s (exact (c .right)) z → roundedRight s (c .right) ≡ wholeF z
     only equal z r = absurd r
-    only atMost z r = ap wholeF (floor-only (exact (c .right)) _ z (floor-is (exact (c .right)) p) r)
-    only atLeast z r = ap wholeF (ceiling-only (exact (c .right)) _ z (ceiling-is (exact (c .right)) p) r)
+    only atMost z r = ap wholeF (floor-one (exact (c .right)) _ z (floor-is (exact (c .right)) p) r)
+    only atLeast z r = ap wholeF (ceiling-one (exact (c .right)) _ z (ceiling-is (exact (c .right)) p) r)
 
     is : Rounded c (record { sense = c .sense; coefficient = c .coefficient; right = roundedRight (c .sense) (c .right) })
     is = let r = to (c .sense) n in record { same-sense = refl; same-coefficients = refl; whole = r .0; right-is = r .1; rounds = r .2 }
