@@ -79,7 +79,7 @@ is-next x y p q = rw (copied x p, back-of y q) (same-bits w64 y (x +ℤ pos 1) (
 -- ---- 0 minus a number, in 64 bits
 
 pub negated-fits : (x : ℤ) → mag x < 2147483648 → SFits w64 (pos 0 -ℤ toZ w64 (ofZ w64 (toZ w32 (ofZ w32 x))))
-negated-fits x p = rw (copied x p, zero-minus x) (neg-fits x (omega (arith, natAbs-small x (record { sfits = p }))))
+negated-fits x p = rw (copied x p, zero-minus x) (neg-fits w64 x (omega (arith, natAbs-small x (record { sfits = p }))))
 
 pub negated : (x : ℤ) → mag x < 2147483648
     → toZ w64 (ofZ w64 (pos 0 -ℤ toZ w64 (ofZ w64 (toZ w32 (ofZ w32 x))))) ≡ x *ℤ negsuc 0
