@@ -7,6 +7,7 @@ use Prim.Native.Nat.{ℕ}
 use native.Mathlib.Omega.{arith}
 use lib.ListN.{length, drop}
 use lib.Seq.{slice, length-slice}
+use denote.Ref.{RefT}
 use Rattle.text.specs.Bytes.{Bytes, same}
 use Rattle.text.specs.BytesLaws.{same-refl, same-true}
 use Rattle.text.specs.Comments.{commentsEnd}
@@ -15,7 +16,9 @@ use Rattle.text.specs.Tokens.{HasTokens, FirstGoes, Stream, listed, rest
 use Rattle.text.specs.TokensLaws.{first-stream, has-tokens, rest-is}
 use Rattle.text.specs.Scans.{scanOf}
 use Rattle.text.specs.ScansLaws.{found, ended}
-use Rattle.text.specs.Promises.{CommentsPassed, TokenScanned, WordCompared}
+use Rattle.text.specs.Shown.{IsPart, partFrom, partTo}
+use Rattle.text.specs.Promises.{CommentsPassed, TokenScanned, PartTaken, WordCompared}
+use Rattle.text.proofs.Parts.{slice-least}
 use Rattle.text.specs.declared.Scan.{Scan}
 use Rattle.text.specs.declared.Scan.the-variants as scan
 
@@ -52,6 +55,10 @@ module _ (text : Bytes) (at : ℕ) {r : Scan} (e : r ≡ scanOf (rest text at)) 
         token-exactly = λ from to. (is-first from to, first-is from to);
         end-exactly = (λ h. has-tokens text at [] .1 (ended text at (sym e ∙ h)), λ h. e ∙ ap scanOf (has-tokens text at [] .0 h));
       }
+
+pub part-taken : {text answer : RefT Bytes} (from to : ℕ) → IsPart text (partFrom (text .now) from to) (partTo (text .now) to) answer
+    → PartTaken text from to answer
+part-taken {text} from to p = record { itself = p; bytes = p .bytes ∙ slice-least from to (text .now) }
 
 pub word-compared : (part word : Bytes) {r : Bool} → r ≡ same part word → WordCompared part word r
 word-compared part word e =

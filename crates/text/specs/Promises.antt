@@ -6,9 +6,12 @@ use mathlib.Core.Logic.{_↔_}
 use mathlib.Core.List.{[]}
 use Prim.Native.Nat.{ℕ}
 use lib.ListN.{drop}
+use lib.Seq.{slice}
+use denote.Ref.{RefT}
 use Rattle.text.specs.Bytes.{Bytes, same}
 use Rattle.text.specs.Comments.{CommentsEndAt, commentsEnd}
 use Rattle.text.specs.Tokens.{HasTokens, FirstGoes, rest}
+use Rattle.text.specs.Shown.{IsPart, partFrom, partTo}
 use Rattle.text.specs.Scans.{scanOf}
 use Rattle.text.specs.declared.Scan.{Scan}
 use Rattle.text.specs.declared.Scan.the-variants as scan
@@ -25,6 +28,12 @@ pub record TokenScanned (text : Bytes) (at : ℕ) (answer : Scan) : Type 0 where
   -- it is a token exactly where that is the first from `at` on, and the end exactly where none but separators are left
   pub token-exactly : (from to : ℕ) → (answer ≡ scan.Token from to) ↔ FirstGoes text at from to
   pub end-exactly : (answer ≡ scan.End) ↔ HasTokens at (drop at text) []
+
+-- `part`: a part of the lent text itself
+pub record PartTaken (text : RefT Bytes) (from to : ℕ) (answer : RefT Bytes) : Type 0 where
+  pub itself : IsPart text (partFrom (text .now) from to) (partTo (text .now) to) answer
+  -- its bytes are those from `from` up to `to`
+  pub bytes : answer .now ≡ slice from to (text .now)
 
 -- `is_word`: "compared byte for byte, case included"
 pub record WordCompared (part word : Bytes) (answer : Bool) : Type 0 where

@@ -8,7 +8,7 @@ ghost use Rattle.text.specs.Bytes.{isSeparator, isDigit, leading, same};
 ghost use Rattle.text.specs.Lines.{lineOf};
 ghost use Rattle.text.specs.Shown.{beginsToken, shownFrom, shownTo, IsPart};
 ghost use Rattle.text.specs.Scans.{isOf};
-ghost use Rattle.text.specs.Promises.{CommentsPassed, TokenScanned, WordCompared};
+ghost use Rattle.text.specs.Promises.{CommentsPassed, TokenScanned, PartTaken, WordCompared};
 
 // The first token from a place on: the place of its first byte and the place after its last; or the end of the text.
 pub enum Scan {
@@ -128,15 +128,15 @@ pub fn line_of(text: &[u8], place: usize) -> usize
     line
 }
 
-// The part from .. to of the text, as far as the text goes.
+// The part from .. to of the text, as far as the text goes; one that would begin after its end is empty at that end.
 pub fn part(text: &[u8], from: usize, to: usize) -> &[u8]
-    ensures { λ r. ⌜ now r ≡ slice from to (now (text .entry)) ⌝ }
+    ensures { λ r. ⌜ PartTaken (text .entry) from to r ⌝ }
 {
-    let end = least(to, text.len());
-    if from < end {
-        &text[from..end]
+    let stop = least(to, text.len());
+    if from < stop {
+        &text[from..stop]
     } else {
-        &text[..0]
+        &text[stop..stop]
     }
 }
 

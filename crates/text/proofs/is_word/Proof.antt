@@ -10,7 +10,7 @@ use Rattle.text.proofs.is_word.Tie as tie
 returns : tie.Need-returns
 returns c =
     let word = c .before .before .before .before .args .word .now in
-    word-compared _ word (c .same-bytes .ensures ∙ ap (λ (w : Bytes). same w word) (c .before .part .ensures))
+    word-compared _ word (c .same-bytes .ensures ∙ ap (λ (w : Bytes). same w word) (c .before .part .ensures .bytes))
 
 pub is-word-spec : {M : Type 1} → statement M
 is-word-spec = tie.close (tie.spec (λ c. search needs) (λ c. search needs) returns)
