@@ -1,7 +1,7 @@
 -- What the answers of the functions say in words, by what they are by definition.
 -- Assumes nothing.
 use mathlib.Core.Path.{_≡_, sym, ap, _∙_, subst}
-use mathlib.Core.Bool.{Bool, true}
+use mathlib.Core.Bool.{Bool, true, false}
 use mathlib.Core.List.{[], _∷_}
 use Prim.Native.Nat.{ℕ}
 use native.Mathlib.Omega.{arith}
@@ -12,12 +12,13 @@ use Rattle.text.specs.Bytes.{Bytes, same}
 use Rattle.text.specs.BytesLaws.{same-refl, same-true}
 use Rattle.text.specs.Comments.{commentsEnd}
 use Rattle.text.specs.CommentsLaws.{comments-end-at}
-use Rattle.text.specs.Tokens.{HasTokens, FirstGoes, Stream, listed, rest}
+use Rattle.text.specs.Tokens.{FirstToken, HasTokens, FirstGoes, Stream, listed, rest}
 use Rattle.text.specs.TokensLaws.{first-stream, has-tokens, rest-is}
 use Rattle.text.specs.Scans.{scanOf}
 use Rattle.text.specs.ScansLaws.{found, ended}
-use Rattle.text.specs.Shown.{IsPart, partFrom, partTo}
-use Rattle.text.specs.Promises.{CommentsPassed, TokenScanned, PartTaken, WordCompared}
+use Rattle.text.specs.Shown.{beginsToken, shownFrom, shownTo, shownAt, IsPart, partFrom, partTo}
+use Rattle.text.specs.ShownLaws.{begun-rest, from-none, to-none, text-token-shown}
+use Rattle.text.specs.Promises.{CommentsPassed, TokenScanned, PartTaken, WordCompared, TokenShown}
 use Rattle.text.proofs.Parts.{slice-least}
 use Rattle.text.specs.declared.Scan.{Scan}
 use Rattle.text.specs.declared.Scan.the-variants as scan
@@ -66,3 +67,26 @@ word-compared part word e =
       by-definition = e;
       equal-exactly = (λ t. same-true part word (sym e ∙ t), λ q. e ∙ subst (λ (w : Bytes). same part w ≡ true) q (same-refl part));
     }
+
+module _ {text answer : RefT Bytes} (place : ℕ) (p : IsPart text (shownFrom (text .now) place) (shownTo (text .now) place) answer) where
+  is-begun : beginsToken (text .now) place ≡ true
+      → (after : Bytes) × FirstToken place (drop place (text .now)) (record { place = place; bytes = answer .now }) after
+  is-begun b =
+      let all = has-tokens (text .now) place (listed (rest (text .now) place)) .1 (rest-is (text .now) place) in
+      let has = subst (λ (s : Stream). HasTokens place (drop place (text .now)) (listed s)) (begun-rest (text .now) place b) all in
+      (has .0, subst (λ (w : Bytes). FirstToken place (drop place (text .now)) (record { place = place; bytes = w }) (has .0)) (sym (p .bytes)) (has .1))
+
+  at-the-end : beginsToken (text .now) place ≡ false → IsPart text (length (text .now)) (length (text .now)) answer
+  at-the-end b =
+      subst (λ (n : ℕ). IsPart text n (length (text .now)) answer) (from-none (text .now) place b)
+      (subst (λ (n : ℕ). IsPart text (shownFrom (text .now) place) n answer) (to-none (text .now) place b) p)
+
+  pub token-shown : TokenShown text place answer
+  token-shown =
+      record {
+        by-definition = p;
+        begun = is-begun;
+        not-begun = at-the-end;
+        each-token = λ before t after h e.
+            p .bytes ∙ ap (shownAt (text .now)) (sym e) ∙ text-token-shown before t after h .1;
+      }

@@ -6,9 +6,9 @@ ghost use lib.ListN.{drop};
 ghost use lib.Seq.{slice};
 ghost use Rattle.text.specs.Bytes.{isSeparator, isDigit, leading, same};
 ghost use Rattle.text.specs.Lines.{lineOf};
-ghost use Rattle.text.specs.Shown.{beginsToken, shownFrom, shownTo, IsPart};
+ghost use Rattle.text.specs.Shown.{beginsToken};
 ghost use Rattle.text.specs.Scans.{isOf};
-ghost use Rattle.text.specs.Promises.{CommentsPassed, TokenScanned, PartTaken, WordCompared};
+ghost use Rattle.text.specs.Promises.{CommentsPassed, TokenScanned, PartTaken, WordCompared, TokenShown};
 
 // The first token from a place on: the place of its first byte and the place after its last; or the end of the text.
 pub enum Scan {
@@ -182,7 +182,7 @@ fn begins_token(text: &[u8], place: usize) -> bool
 
 // Show a token: the token that begins at the place, as that part of the text itself; else an empty part at the text's end.
 pub fn show_token(text: &[u8], place: usize) -> &[u8]
-    ensures { λ r. ⌜ IsPart (text .entry) (shownFrom (now (text .entry)) place) (shownTo (now (text .entry)) place) r ⌝ }
+    ensures { λ r. ⌜ TokenShown (text .entry) place r ⌝ }
 {
     let end = text.len();
     if begins_token(text, place) {
