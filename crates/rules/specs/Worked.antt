@@ -77,6 +77,66 @@ example row solution derived =
     ++ ascii "\nRTP range 1 1\nSOL 1\n" ++ ascii solution
     ++ ascii "\nDER 1\n" ++ ascii derived ++ ascii "\n"
 
+-- ---- texts by the parts that cases vary. x is an integer variable; where there is y, it is not
+
+-- a given row, and the values of a solution
+abbrev pub solved : String → String → Bytes
+solved row values = mixed "OBJ min 0\nCON 1 0 R1 " ++ ascii row ++ ascii "\nRTP range -inf inf\nSOL 1 a " ++ ascii values ++ ascii "\nDER 0\n"
+
+-- an objective, the ends of a range, and two solutions
+abbrev pub reaches : String → String → String → Bytes
+reaches objective ends solutions =
+    mixed "OBJ " ++ ascii objective ++ ascii "\nCON 0 0\nRTP range " ++ ascii ends
+    ++ ascii "\nSOL 2 " ++ ascii solutions ++ ascii "\nDER 0\n"
+
+-- `lin` or `rnd` of two rows with these last indices, by row 3
+abbrev pub lastsNamed : String → String → String → Bytes
+lastsNamed reason first second =
+    oneInteger "OBJ min 1 0 1\nCON 1 0 R1 G 1 1 0 1\nRTP range 1 inf\nSOL 0\nDER 3\nD1 G 1 1 0 1 { lin 1 0 1 } " ++ ascii first
+    ++ ascii "\nD2 G 1 1 0 1 { lin 1 0 1 } " ++ ascii second
+    ++ ascii "\nD3 G 1 OBJ { " ++ ascii reason ++ ascii " 2 1 1/2 2 1/2 } -1\n"
+
+-- `uns` of i1 l1 i2 l2 with these last indices, by row 6
+abbrev pub lastsOfUns : String → String → String → String → Bytes
+lastsOfUns i1 l1 i2 l2 =
+    oneInteger "OBJ min 0\nCON 2 0 R1 G 1 1 0 2 R2 L 1 1 0 2\nRTP infeas\nSOL 0\nDER 5\nA1 L 0 1 0 1 { asm } " ++ ascii l1
+    ++ ascii "\nA2 G 1 1 0 1 { asm } " ++ ascii l2 ++ ascii "\nD1 G 1 0 { lin 2 0 1 2 -2 } " ++ ascii i1
+    ++ ascii "\nD2 L -1 0 { lin 2 1 1 3 -2 } " ++ ascii i2 ++ ascii "\nD3 G 1 0 { uns 4 2 5 3 } -1\n"
+
+-- three given rows, a derived row, and its multipliers
+abbrev pub combines : String → String → String → Bytes
+combines rows derived multipliers =
+    mixed "OBJ min 1 0 1\nCON 3 0 " ++ ascii rows ++ ascii "\nRTP range -inf inf\nSOL 0\nDER 1\nD1 " ++ ascii derived
+    ++ ascii " { lin " ++ ascii multipliers ++ ascii " } -1\n"
+
+-- the rows x ≥ 1, x = 2 and x ≤ 3
+abbrev pub signs : String → String → Bytes
+signs derived multipliers = combines "R1 G 1 1 0 1 R2 E 2 1 0 1 R3 L 3 1 0 1" derived multipliers
+
+-- `lin` or `rnd` of one given row, times 1, and the derived row
+abbrev pub derives : String → String → String → Bytes
+derives reason row derived =
+    mixed "OBJ min 1 0 1\nCON 1 0 R1 " ++ ascii row ++ ascii "\nRTP range -inf inf\nSOL 0\nDER 1\nD1 " ++ ascii derived
+    ++ ascii " { " ++ ascii reason ++ ascii " 1 0 1 } -1\n"
+
+-- two l rows of `uns`; its i rows are the absurdity that is given
+abbrev pub splits : String → String → Bytes
+splits first second =
+    mixed "OBJ min 0\nCON 1 0 R1 G 1 0\nRTP infeas\nSOL 0\nDER 3\nA1 " ++ ascii first ++ ascii " { asm } -1\nA2 " ++ ascii second
+    ++ ascii " { asm } -1\nD1 G 1 0 { uns 0 1 0 2 } -1\n"
+
+-- an objective, three solutions, and a row derived by `sol`
+abbrev pub best : String → String → String → Bytes
+best objective solutions derived =
+    mixed "OBJ " ++ ascii objective ++ ascii "\nCON 0 0\nRTP range -inf inf\nSOL 3 " ++ ascii solutions
+    ++ ascii "\nDER 1\nD1 " ++ ascii derived ++ ascii " { sol } -1\n"
+
+-- an objective, a claim, and a row that is given and then derived from itself
+abbrev pub proves : String → String → String → Bytes
+proves objective claim row =
+    mixed "OBJ " ++ ascii objective ++ ascii "\nCON 1 0 R1 " ++ ascii row ++ ascii "\nRTP " ++ ascii claim
+    ++ ascii "\nSOL 0\nDER 1\nD1 " ++ ascii row ++ ascii " { lin 1 0 1 } -1\n"
+
 unfoldable pub cases : List Case
 cases =
     -- ---- document 01's example, and what it says of three others
@@ -91,6 +151,8 @@ cases =
     -- with exponents (02, request 1): the same row, and one too wide
     ∷ verifies (example "R1 L 0.3E+01 1 0 20e-1" "a 1 0 1E0" "D1 L 1 OBJ { rnd 1 0 5E-1 } -1")
     ∷ refuses 7 9 (example "R1 L 1.5E-101 1 0 2" "a 1 0 1" "D1 L 1 OBJ { rnd 1 0 1/2 } -1")
+    -- "a misspelling near the end goes before a false solution near the start"
+    ∷ refuses 4 9 (oneInteger "OBJ min 0\nCON 1 0 R1 G 1 1 0 1\nRTP infeas\nSOL 1 a 0\nDER 1\nD1 G 1 0 { lin 1 0 1 } x\n")
     -- ---- source document 000's example, minimize x + y: `lin` and `rnd`, rows given as OBJ, last indices
     ∷ verifies (twoIntegers "OBJ min 2 0 1 1 1\nCON 2 0\nC1 G 1 2 0 4 1 1\nC2 L 2 2 0 4 1 -1\nRTP range 1 1\nSOL 2\nfeas 2 0 1 1 2\nopt 1 1 1\nDER 4\nC3 G -1/2 1 1 1 { lin 2 0 1/2 1 -1/2 } 3\nC4 G 0 1 1 1 { rnd 1 2 1 } 4\nC5 G 1/4 OBJ { lin 2 0 1/4 3 3/4 } 5\nC6 G 1 OBJ { rnd 1 4 1 } 0\n")
     -- ---- solutions
@@ -114,6 +176,38 @@ cases =
     ∷ verifies (threeOthers "OBJ min 0\nCON 1 0 R1 E 1 3 0 2147483647 2 -2147483647 1 1\nRTP range -inf inf\nSOL 1 a 3 0 1 1 1 2 1\nDER 0\n")
     -- "Refusing for width a sum whose lowest terms fit" would be an error: these two fractions add up to 1
     ∷ verifies (twoIntegers "OBJ min 0\nCON 1 0 R1 E 1 2 0 1073741824/2147483647 1 1073741823/2147483647\nRTP range -inf inf\nSOL 1 a 2 0 1 1 1\nDER 0\n")
+    -- each sense, on either side: x = 2
+    ∷ verifies (solved "E 2 1 0 1" "1 0 2")
+    ∷ refuses 9 7 (solved "E 2 1 0 1" "1 0 1")
+    ∷ refuses 9 7 (solved "E 2 1 0 1" "1 0 3")
+    -- x ≤ 2
+    ∷ verifies (solved "L 2 1 0 1" "1 0 2")
+    ∷ verifies (solved "L 2 1 0 1" "1 0 1")
+    ∷ refuses 9 7 (solved "L 2 1 0 1" "1 0 3")
+    -- x ≥ 2
+    ∷ verifies (solved "G 2 1 0 1" "1 0 2")
+    ∷ verifies (solved "G 2 1 0 1" "1 0 3")
+    ∷ refuses 9 7 (solved "G 2 1 0 1" "1 0 1")
+    -- "Comparisons are exact, never 12"
+    ∷ verifies (solved "L 1/2147483646 1 1 1" "1 1 1/2147483647")
+    ∷ refuses 9 7 (solved "G 1/2147483646 1 1 1" "1 1 1/2147483647")
+    -- a left side of no terms is 0
+    ∷ verifies (solved "G 0 0" "1 0 5")
+    ∷ refuses 9 7 (solved "G 1 0" "1 0 5")
+    -- whole values: negative, written as a fraction; and not whole below 0
+    ∷ verifies (solved "L -3 1 0 1" "1 0 -3")
+    ∷ verifies (solved "E 2 1 0 1" "1 0 4/2")
+    ∷ refuses 9 7 (solved "L 9 0" "1 0 -1/2")
+    -- each integer variable: here the last
+    ∷ refuses 9 7 (twoIntegers "OBJ min 0\nCON 0 0\nRTP range -inf inf\nSOL 1 a 2 0 1 1 1/2\nDER 0\n")
+    -- each given row: here the last
+    ∷ refuses 9 7 (oneInteger "OBJ min 0\nCON 3 0 R1 G 0 1 0 1 R2 L 1 1 0 1 R3 E 0 1 0 1\nRTP range -inf inf\nSOL 1 a 1 0 1\nDER 0\n")
+    -- each solution: here the first
+    ∷ refuses 9 7 (oneInteger "OBJ min 0\nCON 1 0 R1 G 0 1 0 1\nRTP range -inf inf\nSOL 2 a 1 0 -1\nb 1 0 0\nDER 0\n")
+    -- "numerator magnitude .. above 2,147,483,647 is refusal 12": a product and a sum at the limit, and a sum above it
+    ∷ verifies (solved "E 2147483647 1 1 2147483647" "1 1 1")
+    ∷ verifies (solved "E 2147483647 2 0 2147483646 1 1" "2 0 1 1 1")
+    ∷ refuses 12 7 (solved "G 0 2 0 2147483647 1 1" "2 0 1 1 1")
     -- ---- objectives, and the claim reached
     -- "After all solutions, their objectives": the first objective would be too wide, the second solution fails
     ∷ refuses 9 8 (oneInteger "OBJ min 1 0 2147483647\nCON 1 0 R1 G 0 1 0 1\nRTP range -inf inf\nSOL 2 a 1 0 2\nb 1 0 -1\nDER 0\n")
@@ -132,6 +226,18 @@ cases =
     ∷ refuses 10 6 (oneInteger "OBJ min 1 0 1\nCON 0 0\nRTP range -inf 1\nSOL 0\nDER 0\n")
     -- 10 comes before the derived rows: D1 would be 13
     ∷ refuses 10 6 (oneInteger "OBJ min 1 0 1\nCON 2 0 R1 G 1 1 0 1 R2 L 3 1 0 1\nRTP range 1 1\nSOL 0\nDER 1\nD1 G 4 1 0 2 { lin 2 0 1 1 1 } -1\n")
+    -- "and in order": the first of two that are too wide
+    ∷ refuses 12 7 (oneInteger "OBJ min 1 0 2147483647\nCON 0 0\nRTP range -inf inf\nSOL 2 a 1 0 2\nb 1 0 3\nDER 0\n")
+    -- all objectives are worked out before one is asked for: the first reaches ub, the second is too wide
+    ∷ refuses 12 8 (oneInteger "OBJ min 1 0 2147483647\nCON 0 0\nRTP range -inf 1\nSOL 2 a 1 0 0\nb 1 0 2\nDER 0\n")
+    -- min: below ub, at it and above it; the first, not the last
+    ∷ verifies (reaches "min 1 1 1" "-inf 1/2" "a 1 1 1/3 b 1 1 2")
+    ∷ verifies (reaches "min 1 1 1" "-inf 1/2" "a 1 1 1/2 b 1 1 2")
+    ∷ refuses 10 6 (reaches "min 1 1 1" "-inf 1/2" "a 1 1 2/3 b 1 1 2")
+    -- max: above lb, at it and below it
+    ∷ verifies (reaches "max 1 1 1" "-1 inf" "a 1 1 -1/2 b 1 1 -2")
+    ∷ verifies (reaches "max 1 1 1" "-1 inf" "a 1 1 -1 b 1 1 -2")
+    ∷ refuses 10 6 (reaches "max 1 1 1" "-1 inf" "a 1 1 -3/2 b 1 1 -2")
     -- ---- spent rows
     -- "A derived row is spent for rows above its last index"
     ∷ refuses 11 10 (oneInteger "OBJ min 1 0 1\nCON 1 0 R1 G 1 1 0 1\nRTP range 1 inf\nSOL 0\nDER 3 D1 G 1 1 0 1 { lin 1 0 1 } 2\nD2 G 1 1 0 1 { lin 1 1 1 } -1\nD3 G 1 OBJ { lin 1 1 1 } -1\n")
@@ -143,6 +249,24 @@ cases =
     ∷ refuses 11 12 (oneInteger "OBJ min 0\nCON 2 0 R1 G 1 1 0 2 R2 L 1 1 0 2\nRTP infeas\nSOL 0\nDER 5 A1 L 0 1 0 1 { asm } -1\nA2 G 1 1 0 1 { asm } 5\nD1 G 1 0 { lin 2 0 1 2 -2 } -1\nD2 L -1 0 { lin 2 1 1 3 -2 } -1\nD3 G 1 0 { uns 4 2 5 3 } -1\n")
     -- a spent l row that is no `asm` row is 11 too: a `lin` row past its last index
     ∷ refuses 11 13 (oneInteger "OBJ min 0\nCON 2 0 R1 L 0 1 0 2 R2 G 1 1 0 2\nRTP infeas\nSOL 0\nDER 5\nL1 L 0 1 0 1 { lin 1 0 1/2 } 5\nA1 G 1 1 0 1 { asm } -1\nD1 G 1 0 { lin 2 1 1 2 -2 } -1\nD2 G 1 0 { lin 2 3 1 2 -1 } -1\nD3 G 1 0 { uns 4 2 5 3 } -1\n")
+    -- each place of `lin` and `rnd`: row 3 names two rows; their last index is 3, or 2 for one of them
+    ∷ verifies (lastsNamed "lin" "3" "3")
+    ∷ refuses 11 11 (lastsNamed "lin" "2" "3")
+    ∷ refuses 11 11 (lastsNamed "lin" "3" "2")
+    ∷ verifies (lastsNamed "rnd" "3" "3")
+    ∷ refuses 11 11 (lastsNamed "rnd" "2" "3")
+    ∷ refuses 11 11 (lastsNamed "rnd" "3" "2")
+    -- each place of `uns`, i1 l1 i2 l2: row 6 names four rows
+    ∷ verifies (lastsOfUns "6" "6" "6" "6")
+    ∷ refuses 11 13 (lastsOfUns "5" "6" "6" "6")
+    ∷ refuses 11 13 (lastsOfUns "6" "5" "6" "6")
+    ∷ refuses 11 13 (lastsOfUns "6" "6" "5" "6")
+    ∷ refuses 11 13 (lastsOfUns "6" "6" "6" "5")
+    -- "first 11": before 12, 14, 15 and 16
+    ∷ refuses 11 10 (oneInteger "OBJ min 1 0 1\nCON 1 0 R1 G 1 1 0 2147483647\nRTP range 1 inf\nSOL 0\nDER 2\nD1 G 1 1 0 2147483647 { lin 1 0 1 } 0\nD2 G 1 1 0 1 { lin 1 1 2 } -1\n")
+    ∷ refuses 11 10 (oneInteger "OBJ min 1 0 1\nCON 1 0 R1 E 1 1 0 1\nRTP range 1 inf\nSOL 0\nDER 2\nD1 E 1 1 0 1 { lin 1 0 1 } 0\nD2 G 1 1 0 1 { rnd 1 1 1 } -1\n")
+    ∷ refuses 11 10 (oneInteger "OBJ min 1 0 1\nCON 1 0 R1 G 1 1 0 1\nRTP range 1 inf\nSOL 0\nDER 2\nD1 G 1 1 0 1 { lin 1 0 1 } 0\nD2 G 2 1 0 1 { lin 1 1 1 } -1\n")
+    ∷ refuses 11 10 (oneInteger "OBJ min 0\nCON 1 0 R1 G 1 0\nRTP infeas\nSOL 0\nDER 2\nA1 L 0 1 0 1 { asm } 0\nD1 G 1 0 { uns 0 1 0 1 } -1\n")
     -- ---- lin
     -- "sign rule of 000, else 13": x ≥ 1 and x ≤ 3, both times 1
     ∷ refuses 13 9 (oneInteger "OBJ min 1 0 1\nCON 2 0 R1 G 1 1 0 1 R2 L 3 1 0 1\nRTP range 1 inf\nSOL 0\nDER 1\nD1 G 4 1 0 2 { lin 2 0 1 1 1 } -1\n")
@@ -168,6 +292,23 @@ cases =
     ∷ verifies (oneInteger "OBJ min 0\nCON 2 0 R1 E 1 1 0 1 R2 E 2 1 0 1\nRTP infeas\nSOL 0\nDER 1\nD1 E 1 0 { lin 2 0 -1 1 1 } -1\n")
     -- "so does p = 0": 0 = 0 dominates 0 ≥ 0
     ∷ verifies (oneInteger "OBJ min 0\nCON 0 0\nRTP range 0 inf\nSOL 0\nDER 1\nD1 G 0 OBJ { lin 0 } -1\n")
+    -- x ≥ 1, x = 2 and x ≤ 3. Each alone, times 1 and times -1; ≥ and ≤ with opposite signs, either way; = beside them with
+    -- either sign; a multiplier 0 beside any other, and 0 alone, which "gives an equality"; "so does p = 0"
+    ∷ verifies (oneInteger "OBJ min 0\nCON 3 0 R1 G 1 1 0 1 R2 E 2 1 0 1 R3 L 3 1 0 1\nRTP range -inf inf\nSOL 0\nDER 14\nD1 G 1 1 0 1 { lin 1 0 1 } -1\nD2 L -1 1 0 -1 { lin 1 0 -1 } -1\nD3 E 2 1 0 1 { lin 1 1 1 } -1\nD4 E -2 1 0 -1 { lin 1 1 -1 } -1\nD5 L 3 1 0 1 { lin 1 2 1 } -1\nD6 G -3 1 0 -1 { lin 1 2 -1 } -1\nD7 G -2 0 { lin 2 0 1 2 -1 } -1\nD8 L 2 0 { lin 2 0 -1 2 1 } -1\nD9 G 8 1 0 5 { lin 3 0 1 1 5 2 -1 } -1\nD10 G -12 1 0 -5 { lin 3 0 1 1 -5 2 -1 } -1\nD11 G 1 1 0 1 { lin 2 2 0 0 1 } -1\nD12 E 0 0 { lin 1 0 0 } -1\nD13 E 0 0 { lin 3 0 0 1 0 2 0 } -1\nD14 E 0 0 { lin 0 } -1\n")
+    -- ≥ and ≤ of the same sign, also with = between them; two of one sense with opposite signs
+    ∷ refuses 13 9 (signs "L -4 1 0 -2" "2 0 -1 2 -1")
+    ∷ refuses 13 9 (signs "G 6 1 0 3" "3 0 1 1 1 2 1")
+    ∷ refuses 13 9 (combines "R1 G 1 1 0 1 R2 G 2 1 0 1 R3 L 3 1 0 1" "G -1 0" "2 0 1 1 -1")
+    ∷ refuses 13 9 (combines "R1 L 1 1 0 1 R2 L 2 1 0 1 R3 L 3 1 0 1" "L -1 0" "2 0 1 1 -1")
+    -- the sense is no other: not = of ≥, not ≥ of ≥ times -1, not 0 = 1 of p = 0
+    ∷ refuses 15 9 (signs "E 1 1 0 1" "1 0 1")
+    ∷ refuses 15 9 (signs "G -1 1 0 -1" "1 0 -1")
+    ∷ refuses 15 9 (signs "E 1 0" "0")
+    -- a coefficient and a right side at the limit and above it, as sums
+    ∷ verifies (combines "R1 G 0 1 0 2147483646 R2 G 0 1 0 1 R3 L 3 1 0 1" "G 0 1 0 2147483647" "2 0 1 1 1")
+    ∷ refuses 12 9 (combines "R1 G 0 1 0 2147483647 R2 G 0 1 0 1 R3 L 3 1 0 1" "G 0 1 0 2147483647" "2 0 1 1 1")
+    ∷ verifies (combines "R1 G -2147483646 1 0 1 R2 G -1 1 0 1 R3 L 3 1 0 1" "G -2147483647 1 0 2" "2 0 1 1 1")
+    ∷ refuses 12 9 (combines "R1 G -2147483647 1 0 1 R2 G -1 1 0 1 R3 L 3 1 0 1" "G -2147483647 1 0 2" "2 0 1 1 1")
     -- ---- domination
     -- "absurdities dominate all": 0 ≥ 1 dominates x ≥ 5
     ∷ verifies (oneInteger "OBJ min 1 0 1\nCON 2 0 R1 G 1 1 0 1 R2 L 0 1 0 1\nRTP range 5 inf\nSOL 0\nDER 1\nD1 G 5 OBJ { lin 2 0 1 1 -1 } -1\n")
@@ -183,6 +324,31 @@ cases =
     ∷ refuses 15 9 (oneInteger "OBJ min 1 0 1\nCON 1 0 R1 G 2 1 0 1\nRTP range 1 inf\nSOL 0\nDER 1\nD1 L 2 1 0 1 { lin 1 0 1 } -1\n")
     -- and none with a tighter right side
     ∷ refuses 15 9 (oneInteger "OBJ max 1 0 1\nCON 1 0 R1 L 2 1 0 1\nRTP range -inf 1\nSOL 0\nDER 1\nD1 L 1 1 0 1 { lin 1 0 1 } -1\n")
+    -- each sense by each that dominates it, with the same right side and, but for =, another one: ≥ by ≥, ≥ by =, ≤ by ≤, ≤
+    -- by =, = by =; right sides on both sides of 0 that are no whole numbers
+    ∷ verifies (mixed "OBJ min 0\nCON 5 0 R1 G 2 1 0 1 R2 E 2 1 0 1 R3 L 2 1 0 1 R4 G 1/2 1 1 1 R5 L -1/2 1 1 1\nRTP range -inf inf\nSOL 0\nDER 11\nD1 G 2 1 0 1 { lin 1 0 1 } -1\nD2 G 1 1 0 1 { lin 1 0 1 } -1\nD3 G 2 1 0 1 { lin 1 1 1 } -1\nD4 G 1 1 0 1 { lin 1 1 1 } -1\nD5 L 2 1 0 1 { lin 1 2 1 } -1\nD6 L 3 1 0 1 { lin 1 2 1 } -1\nD7 L 2 1 0 1 { lin 1 1 1 } -1\nD8 L 3 1 0 1 { lin 1 1 1 } -1\nD9 E 2 1 0 1 { lin 1 1 1 } -1\nD10 G 1/3 1 1 1 { lin 1 3 1 } -1\nD11 L -1/3 1 1 1 { lin 1 4 1 } -1\n")
+    -- and none with a right side on the other side: ≥ by ≥, ≥ by =, ≤ by =, = by = either way, and those that are no whole
+    -- numbers
+    ∷ refuses 15 9 (derives "lin" "G 2 1 0 1" "G 3 1 0 1")
+    ∷ refuses 15 9 (derives "lin" "E 2 1 0 1" "G 3 1 0 1")
+    ∷ refuses 15 9 (derives "lin" "E 2 1 0 1" "L 1 1 0 1")
+    ∷ refuses 15 9 (derives "lin" "E 2 1 0 1" "E 1 1 0 1")
+    ∷ refuses 15 9 (derives "lin" "E 2 1 0 1" "E 3 1 0 1")
+    ∷ refuses 15 9 (derives "lin" "G 1/3 1 1 1" "G 1/2 1 1 1")
+    ∷ refuses 15 9 (derives "lin" "L -1/3 1 1 1" "L -1/2 1 1 1")
+    -- ≤ dominates neither ≥ nor =
+    ∷ refuses 15 9 (derives "lin" "L 2 1 0 1" "G 2 1 0 1")
+    ∷ refuses 15 9 (derives "lin" "L 2 1 0 1" "E 2 1 0 1")
+    -- "equal coefficients": of each variable
+    ∷ refuses 15 9 (derives "lin" "G 2 2 0 1 1 3" "G 2 2 0 2 1 3")
+    ∷ refuses 15 9 (derives "lin" "G 2 2 0 1 1 3" "G 2 2 0 1 1 4")
+    ∷ refuses 15 9 (derives "lin" "G 2 1 0 1" "G 2 2 0 1 1 1")
+    ∷ refuses 15 9 (derives "lin" "G 2 2 0 1 1 1" "G 2 1 0 1")
+    -- absurdities dominate rows of each sense: 0 = 1, 0 = -1, 0 ≤ -1/2, 0 ≥ 1/2, and 0 x + 0 y = 1
+    ∷ verifies (mixed "OBJ min 0\nCON 5 0 R1 E 1 0 R2 E -1 0 R3 L -1/2 0 R4 G 1/2 0 R5 E 1 2 0 0 1 0\nRTP range -inf inf\nSOL 0\nDER 5\nD1 L -9 2 0 1 1 3 { lin 1 0 1 } -1\nD2 G 9 1 1 3 { lin 1 1 1 } -1\nD3 E 9 1 0 1 { lin 1 2 1 } -1\nD4 E -9 1 0 1 { lin 1 3 1 } -1\nD5 L -9 0 { lin 1 4 1 } -1\n")
+    -- 0 = 0 is none, nor is y = 1
+    ∷ refuses 15 9 (derives "lin" "E 0 0" "G 9 1 0 1")
+    ∷ refuses 15 9 (derives "lin" "E 1 2 0 0 1 1" "L -9 1 0 1")
     -- ---- rnd
     -- "13"
     ∷ refuses 13 9 (oneInteger "OBJ min 1 0 1\nCON 2 0 R1 G 1 1 0 1 R2 L 3 1 0 1\nRTP range 1 inf\nSOL 0\nDER 1\nD1 G 4 1 0 2 { rnd 2 0 1/2 1 1 } -1\n")
@@ -208,6 +374,26 @@ cases =
     ∷ refuses 15 9 (oneInteger "OBJ min 1 0 1\nCON 1 0 R1 G -1 1 0 2\nRTP range 1 inf\nSOL 0\nDER 1\nD1 G 1 OBJ { rnd 1 0 1/2 } -1\n")
     -- negated multipliers: 2 x ≤ 1 times -1/2 is -x ≥ -1/2, rounded -x ≥ 0
     ∷ verifies (oneInteger "OBJ min 1 0 -1\nCON 1 0 R1 L 1 1 0 2\nRTP range 0 inf\nSOL 0\nDER 1\nD1 G 0 OBJ { rnd 1 0 -1/2 } -1\n")
+    -- ⌊β⌋ under ≤, of 3/2, 3, 0, -1/2 and -3; ⌈β⌉ under ≥, of 3/2, 3, 0, -3/2 and -3; with coefficients -2, and 0 at a
+    -- variable that is not integer; of no terms
+    ∷ verifies (mixed "OBJ min 0\nCON 13 0 R1 L 3/2 1 0 1 R2 L 3 1 0 1 R3 L 0 1 0 1 R4 L -1/2 1 0 1 R5 L -3 1 0 1 R6 G 3/2 1 0 1 R7 G 3 1 0 1 R8 G 0 1 0 1 R9 G -3/2 1 0 1 R10 G -3 1 0 1 R11 L 1/2 1 0 -2 R12 G 1/2 2 0 1 1 0 R13 L 1/2 0\nRTP range -inf inf\nSOL 0\nDER 13\nD1 L 1 1 0 1 { rnd 1 0 1 } -1\nD2 L 3 1 0 1 { rnd 1 1 1 } -1\nD3 L 0 1 0 1 { rnd 1 2 1 } -1\nD4 L -1 1 0 1 { rnd 1 3 1 } -1\nD5 L -3 1 0 1 { rnd 1 4 1 } -1\nD6 G 2 1 0 1 { rnd 1 5 1 } -1\nD7 G 3 1 0 1 { rnd 1 6 1 } -1\nD8 G 0 1 0 1 { rnd 1 7 1 } -1\nD9 G -1 1 0 1 { rnd 1 8 1 } -1\nD10 G -3 1 0 1 { rnd 1 9 1 } -1\nD11 L 0 1 0 -2 { rnd 1 10 1 } -1\nD12 G 1 1 0 1 { rnd 1 11 1 } -1\nD13 L 0 0 { rnd 1 12 1 } -1\n")
+    -- and no further: under ≤
+    ∷ refuses 15 9 (derives "rnd" "L 3 1 0 1" "L 2 1 0 1")
+    ∷ refuses 15 9 (derives "rnd" "L 0 1 0 1" "L -1 1 0 1")
+    ∷ refuses 15 9 (derives "rnd" "L -1/2 1 0 1" "L -2 1 0 1")
+    ∷ refuses 15 9 (derives "rnd" "L -3 1 0 1" "L -4 1 0 1")
+    -- under ≥
+    ∷ refuses 15 9 (derives "rnd" "G 3/2 1 0 1" "G 3 1 0 1")
+    ∷ refuses 15 9 (derives "rnd" "G 3 1 0 1" "G 4 1 0 1")
+    ∷ refuses 15 9 (derives "rnd" "G 0 1 0 1" "G 1 1 0 1")
+    ∷ refuses 15 9 (derives "rnd" "G -3/2 1 0 1" "G 0 1 0 1")
+    ∷ refuses 15 9 (derives "rnd" "G -3 1 0 1" "G -2 1 0 1")
+    -- a coefficient -1/2; a variable that is not integer, though the right side is whole; an equality with a whole right
+    -- side; "all multiplier-times-sign zero" is an equality too
+    ∷ refuses 14 9 (derives "rnd" "L 1/2 1 0 -1/2" "L 0 1 0 -1/2")
+    ∷ refuses 14 9 (derives "rnd" "G 1 1 1 1" "G 1 1 1 1")
+    ∷ refuses 14 9 (derives "rnd" "E 1 1 0 1" "E 1 1 0 1")
+    ∷ refuses 14 9 (oneInteger "OBJ min 1 0 1\nCON 1 0 R1 G 1 1 0 1\nRTP range -inf inf\nSOL 0\nDER 1\nD1 G 0 0 { rnd 1 0 0 } -1\n")
     -- ---- uns: 2 x = 1 has no whole solution, for x ≤ 0 gives 0 ≥ 1 and x ≥ 1 gives 0 ≤ -1
     -- "`uns` A(i1) without l1 joined with A(i2) without l2": none is left
     ∷ verifies (oneInteger "OBJ min 0\nCON 2 0 R1 G 1 1 0 2 R2 L 1 1 0 2\nRTP infeas\nSOL 0\nDER 5\nA1 L 0 1 0 1 { asm } -1\nA2 G 1 1 0 1 { asm } -1\nD1 G 1 0 { lin 2 0 1 2 -2 } -1\nD2 L -1 0 { lin 2 1 1 3 -2 } -1\nD3 G 1 0 { uns 4 2 5 3 } -1\n")
@@ -239,6 +425,35 @@ cases =
     ∷ refuses 15 13 (oneInteger "OBJ min 0\nCON 2 0 R1 G 1 1 0 2 R2 L 1 1 0 2\nRTP infeas\nSOL 0\nDER 5\nA1 L 0 1 0 1 { asm } -1\nA2 G 1 1 0 1 { asm } -1\nD1 G 1 0 { lin 2 0 1 2 -2 } -1\nD2 L -1 0 { lin 2 1 1 3 -2 } -1\nD3 G 1 0 { uns 0 2 5 3 } -1\n")
     -- an empty left side is allowed, 0 ≤ 0 against 0 ≥ 1; `uns` "may repeat"
     ∷ verifies (oneInteger "OBJ min 0\nCON 1 0 R1 G 1 0\nRTP infeas\nSOL 0\nDER 3\nA1 L 0 0 { asm } -1\nA2 G 1 0 { asm } -1\nD1 G 1 0 { uns 0 1 0 2 } -1\n")
+    -- β and β + 1 for β = -3, -1 and 2; not β and β, nor β and β + 2, nor β + 1 and β
+    ∷ verifies (splits "L -3 1 0 1" "G -2 1 0 1")
+    ∷ refuses 16 11 (splits "L -3 1 0 1" "G -3 1 0 1")
+    ∷ refuses 16 11 (splits "L -3 1 0 1" "G -1 1 0 1")
+    ∷ verifies (splits "L -1 1 0 1" "G 0 1 0 1")
+    ∷ verifies (splits "L 2 1 0 1" "G 3 1 0 1")
+    ∷ refuses 16 11 (splits "L 2 1 0 1" "G 2 1 0 1")
+    ∷ refuses 16 11 (splits "L 2 1 0 1" "G 4 1 0 1")
+    ∷ refuses 16 11 (splits "L 3 1 0 1" "G 2 1 0 1")
+    -- "perhaps after reordering"
+    ∷ verifies (splits "G -2 1 0 1" "L -3 1 0 1")
+    -- up to the limit
+    ∷ verifies (splits "L 2147483646 1 0 1" "G 2147483647 1 0 1")
+    -- "whole β"
+    ∷ refuses 16 11 (splits "L -1/2 1 0 1" "G 1/2 1 0 1")
+    ∷ refuses 16 11 (splits "L 0 1 0 1" "G 1/2 1 0 1")
+    -- "one is L .., the other G"
+    ∷ refuses 16 11 (splits "L 0 1 0 1" "L 1 1 0 1")
+    ∷ refuses 16 11 (splits "E 0 1 0 1" "G 1 1 0 1")
+    ∷ refuses 16 11 (splits "L 0 1 0 1" "E 1 1 0 1")
+    -- "coefficients equal and whole", of either sign, in any order; a zero at a variable that is not integer
+    ∷ verifies (splits "L 4 1 0 -3" "G 5 1 0 -3")
+    ∷ verifies (splits "L 4 2 1 0 0 1" "G 5 2 0 1 1 0")
+    ∷ refuses 16 11 (splits "L 4 1 0 1" "G 5 1 0 -1")
+    ∷ refuses 16 11 (splits "L 4 2 0 1 1 1" "G 5 2 0 1 1 1")
+    -- a split within a split: A3 and A4 go at D3, A1 and A2 at D5
+    ∷ verifies (twoIntegers "OBJ min 0\nCON 1 0 R1 G 1 0\nRTP infeas\nSOL 0\nDER 9\nA1 L 0 1 0 1 { asm } -1\nA2 G 1 1 0 1 { asm } -1\nA3 L 0 1 1 1 { asm } -1\nA4 G 1 1 1 1 { asm } -1\nD1 G 1 0 { lin 3 0 1 1 0 3 0 } -1\nD2 G 1 0 { lin 3 0 1 1 0 4 0 } -1\nD3 G 1 0 { uns 5 3 6 4 } -1\nD4 G 1 0 { lin 2 0 1 2 0 } -1\nD5 G 1 0 { uns 7 1 8 2 } -1\n")
+    -- at D3 A1 is kept
+    ∷ refuses 17 15 (twoIntegers "OBJ min 0\nCON 1 0 R1 G 1 0\nRTP infeas\nSOL 0\nDER 7\nA1 L 0 1 0 1 { asm } -1\nA2 G 1 1 0 1 { asm } -1\nA3 L 0 1 1 1 { asm } -1\nA4 G 1 1 1 1 { asm } -1\nD1 G 1 0 { lin 3 0 1 1 0 3 0 } -1\nD2 G 1 0 { lin 3 0 1 1 0 4 0 } -1\nD3 G 1 0 { uns 5 3 6 4 } -1\n")
     -- ---- uns: 02, "Drop the condition that l rows are `asm` rows; the pair test stays"
     -- l1 is a given row, x ≤ 0, and x ≥ 1 is assumed
     ∷ verifies (oneInteger "OBJ min 0\nCON 2 0 R1 L 0 1 0 1 R2 G 1 1 0 2\nRTP infeas\nSOL 0\nDER 4\nA1 G 1 1 0 1 { asm } -1\nD1 G 1 0 { lin 2 1 1 0 -2 } -1\nD2 G 1 0 { lin 2 2 1 0 -1 } -1\nD3 G 1 0 { uns 3 0 4 2 } -1\n")
@@ -293,6 +508,23 @@ cases =
     ∷ refuses 15 9 (oneInteger "OBJ max 1 0 1\nCON 0 0\nRTP range -inf inf\nSOL 1 a 1 0 2\nDER 1\nD1 L 2 OBJ { sol } -1\n")
     -- under `infeas` it follows its rule too
     ∷ refuses 17 9 (oneInteger "OBJ min 1 0 1\nCON 0 0\nRTP infeas\nSOL 1 a 1 0 2\nDER 1\nD1 L 2 OBJ { sol } -1\n")
+    -- the best of three, first or last; a weaker row, and a stronger one
+    ∷ verifies (best "min 1 0 1" "a 1 0 2 b 1 0 3 c 1 0 4" "L 2 OBJ")
+    ∷ verifies (best "min 1 0 1" "a 1 0 4 b 1 0 3 c 1 0 2" "L 2 OBJ")
+    ∷ verifies (best "min 1 0 1" "a 1 0 3 b 1 0 2 c 1 0 4" "L 3 OBJ")
+    ∷ verifies (best "max 1 0 1" "a 1 0 -2 b 1 0 -3 c 1 0 -4" "G -2 OBJ")
+    ∷ verifies (best "max 1 0 1" "a 1 0 -3 b 1 0 -2 c 1 0 -4" "G -3 OBJ")
+    ∷ refuses 15 9 (best "max 1 0 1" "a 1 0 -3 b 1 0 -2 c 1 0 -4" "G -1 OBJ")
+    -- no other sense
+    ∷ refuses 15 9 (best "min 1 0 1" "a 1 0 2 b 1 0 2 c 1 0 2" "G 2 OBJ")
+    ∷ refuses 15 9 (best "min 1 0 1" "a 1 0 2 b 1 0 2 c 1 0 2" "E 2 OBJ")
+    -- the objective's terms, listed; other terms
+    ∷ verifies (best "min 1 0 1" "a 1 0 3 b 1 0 2 c 1 0 4" "L 2 1 0 1")
+    ∷ refuses 15 9 (best "min 1 0 1" "a 1 0 3 b 1 0 2 c 1 0 4" "L 4 1 0 2")
+    -- "`sol` and given rows empty": D1 assumes nothing
+    ∷ verifies (oneInteger "OBJ min 1 0 1\nCON 1 0 R1 G 1 1 0 1\nRTP range 1 1\nSOL 1 a 1 0 1\nDER 2\nS1 L 1 OBJ { sol } -1\nD1 G 1 OBJ { lin 2 0 1 1 0 } -1\n")
+    -- 18 under `infeas` too
+    ∷ refuses 18 9 (oneInteger "OBJ min 1 0 1\nCON 1 0 R1 G 1 0\nRTP infeas\nSOL 0\nDER 1\nD1 G 1 0 { sol } -1\n")
     -- ---- the claim proved
     -- "`infeas` asks a last derived row, absurd, with no assumptions"
     ∷ verifies (oneInteger "OBJ min 0\nCON 1 0 R1 L -1 0\nRTP infeas\nSOL 0\nDER 1\nD1 L -1 0 { lin 1 0 1 } -1\n")
@@ -321,6 +553,52 @@ cases =
     ∷ verifies (oneInteger "OBJ max 1 0 1\nCON 0 0\nRTP range -inf inf\nSOL 0\nDER 0\n")
     -- lb above ub is not tested: as any other claim that is not proved
     ∷ refuses 17 8 (oneInteger "OBJ min 1 0 1\nCON 0 0\nRTP range 5 1\nSOL 1 a 0\nDER 0\n")
+    -- absurdities of each sense, on both sides of 0 and at 0: 0 = β
+    ∷ verifies (proves "min 0" "infeas" "E 1 0")
+    ∷ verifies (proves "min 0" "infeas" "E -1 0")
+    ∷ refuses 17 9 (proves "min 0" "infeas" "E 0 0")
+    -- 0 ≤ β
+    ∷ verifies (proves "min 0" "infeas" "L -1/2 0")
+    ∷ refuses 17 9 (proves "min 0" "infeas" "L 1/2 0")
+    -- 0 ≥ β
+    ∷ verifies (proves "min 0" "infeas" "G 1/2 0")
+    ∷ refuses 17 9 (proves "min 0" "infeas" "G 0 0")
+    ∷ refuses 17 9 (proves "min 0" "infeas" "G -1/2 0")
+    -- every coefficient is 0
+    ∷ verifies (proves "min 0" "infeas" "E 1 1 0 0")
+    ∷ refuses 17 9 (proves "min 0" "infeas" "E 1 1 0 1")
+    ∷ refuses 17 9 (proves "min 0" "infeas" "G 1 2 0 0 1 1")
+    -- the last derived row is asked, and not the one before
+    ∷ refuses 17 10 (oneInteger "OBJ min 0\nCON 1 0 R1 G 1 0\nRTP infeas\nSOL 0\nDER 2\nD1 G 1 0 { lin 1 0 1 } -1\nD2 G 0 0 { lin 1 0 1 } -1\n")
+    -- min: OBJ ≥ 1, by the row itself, a stronger one and a weaker one
+    ∷ verifies (proves "min 1 0 1" "range 1 inf" "G 1 1 0 1")
+    ∷ verifies (proves "min 1 0 1" "range 1 inf" "G 2 1 0 1")
+    ∷ refuses 17 9 (proves "min 1 0 1" "range 1 inf" "G 1/2 1 0 1")
+    -- by an equality; by the other sense; by other terms; by an absurdity
+    ∷ verifies (proves "min 1 0 1" "range 1 inf" "E 1 1 0 1")
+    ∷ refuses 17 9 (proves "min 1 0 1" "range 1 inf" "E 1/2 1 0 1")
+    ∷ refuses 17 9 (proves "min 1 0 1" "range 1 inf" "L 1 1 0 1")
+    ∷ refuses 17 9 (proves "min 1 0 1" "range 1 inf" "G 1 1 0 2")
+    ∷ verifies (proves "min 1 0 1" "range 1 inf" "E -1 0")
+    -- max: OBJ ≤ -1, in the same way
+    ∷ verifies (proves "max 1 0 1" "range -inf -1" "L -1 1 0 1")
+    ∷ verifies (proves "max 1 0 1" "range -inf -1" "L -2 1 0 1")
+    ∷ refuses 17 9 (proves "max 1 0 1" "range -inf -1" "L -1/2 1 0 1")
+    ∷ verifies (proves "max 1 0 1" "range -inf -1" "E -1 1 0 1")
+    ∷ refuses 17 9 (proves "max 1 0 1" "range -inf -1" "E -1/2 1 0 1")
+    ∷ refuses 17 9 (proves "max 1 0 1" "range -inf -1" "G -1 1 0 1")
+    ∷ verifies (proves "max 1 0 1" "range -inf -1" "L -1 OBJ")
+    ∷ verifies (proves "max 1 0 1" "range -inf -1" "E 1 0")
+    -- "With that end infinite nothing is asked": of a row that proves no bound
+    ∷ verifies (proves "min 1 0 1" "range -inf inf" "L 1 1 0 1")
+    ∷ verifies (proves "max 1 0 1" "range -inf inf" "G 1 1 0 1")
+    -- max, and no derived row: the word `DER`
+    ∷ refuses 17 8 (oneInteger "OBJ max 1 0 1\nCON 1 0 R1 L 1 1 0 1\nRTP range -inf 1\nSOL 0\nDER 0\n")
+    -- a range by an assumption
+    ∷ refuses 17 9 (oneInteger "OBJ min 1 0 1\nCON 0 0\nRTP range 1 inf\nSOL 0\nDER 1\nD1 G 1 OBJ { asm } -1\n")
+    -- "the union": of the first row named, and of the last
+    ∷ refuses 17 10 (oneInteger "OBJ min 1 0 1\nCON 1 0 R1 G 1 1 0 1\nRTP range 1 inf\nSOL 0\nDER 2\nA1 G 1 1 0 1 { asm } -1\nD1 G 1 OBJ { lin 2 1 1/2 0 1/2 } -1\n")
+    ∷ refuses 17 10 (oneInteger "OBJ min 1 0 1\nCON 1 0 R1 G 1 1 0 1\nRTP range 1 inf\nSOL 0\nDER 2\nA1 G 1 1 0 1 { asm } -1\nD1 G 1 OBJ { rnd 2 0 1/2 1 1/2 } -1\n")
     ∷ []
 
 pub worked : map (λ (c : Case). answer (c .text)) cases ≡ map (λ (c : Case). c .expected) cases

@@ -12,7 +12,8 @@
 -- Nothing here refers to checking, and nothing bounds the size of a point. A row's terms are its own, or the objective's where
 -- it says `OBJ` (`termsOf`); a variable that a solution does not list has the value 0 (`valueIn`). A fraction stands for a
 -- rational number (`exact`). Rational numbers are quotients of whole numbers, `top` over `bottom`, compared by cross products:
--- y ≤Q z says that y .top · z .bottom is at most z .top · y .bottom, and y ≈ z that the two are equal.
+-- y ≤Q z says that y .top · z .bottom is at most z .top · y .bottom, and y ≈ z that the two are equal. That is the order and the
+-- equality of the rational numbers where both bottoms are positive, and all that are compared here are (`DenominatorsPositive`).
 -- Assumes nothing.
 use mathlib.Core.Path.{_≡_}
 use mathlib.Core.List.{List, [], _∷_}
@@ -20,6 +21,7 @@ use Prim.Native.Nat.{ℕ, _<_}
 use lib.IntN.{ℤ, pos}
 use Rattle.text.specs.Bytes.{Bytes}
 use Rattle.arithmetic.specs.Quotient.{Quotient, _≈_, _≤Q_, _+Q_, _*Q_, wholeQ}
+use Rattle.arithmetic.specs.QuotientLaws.{Positive}
 use Rattle.arithmetic.specs.Fraction.{exact}
 use Rattle.grammar.specs.Tree.{Term, Sense, equal, atMost, atLeast, Row, Direction, minimize, maximize, End, infinite, finite, Claim, infeas, range, Solution, Tree}
 use Rattle.grammar.specs.Texts.{SpellsTree}
@@ -101,6 +103,22 @@ ClaimTrue tree minimize (range lower upper) =
 ClaimTrue tree maximize (range lower upper) =
     IfFinite upper (λ ub. EveryFeasible tree (λ value. value ≤Q ub)) × IfFinite lower (λ lb. SomeListed tree (λ value. lb ≤Q value))
 
+-- ---- denominators
+
+-- of the ends of a claim, where they are finite
+abbrev pub EndsPositive : Claim → Type 0
+EndsPositive infeas = Unit {0}
+EndsPositive (range lower upper) = IfFinite lower Positive × IfFinite upper Positive
+
+-- every rational number that is compared above has a positive denominator: the sums at a point, the right sides, the values that
+-- solutions list, and the ends. A point's own is positive by itself, and a whole number's is 1
+pub record DenominatorsPositive (tree : Tree) : Type 0 where
+  pub left-sides : (x : Point) → All (λ (row : Row). Positive (valueAt (termsOf tree row) x)) (tree .constraints .rows)
+  pub right-sides : All (λ (row : Row). Positive (exact (row .right))) (tree .constraints .rows)
+  pub objectives : (x : Point) → Positive (objectiveAt tree x)
+  pub solutions : All (λ (s : Solution). (v : ℕ) → Positive (exact (valueIn (s .values .terms) v))) (tree .solutions .solutions)
+  pub ends : EndsPositive (tree .relation .claim)
+
 -- ---- the sentence
 
 -- of a certificate
@@ -108,9 +126,10 @@ pub record Sentence (tree : Tree) : Type 0 where
   pub solutions-feasible : All (SolutionFeasible tree) (tree .solutions .solutions)
   pub claim-true : ClaimTrue tree (tree .objective .direction) (tree .relation .claim)
 
--- of a text: it spells a certificate, and no other, and the sentence holds of that one
+-- of a text: it spells a certificate, and no other, whose denominators are positive, and the sentence holds of that one
 pub record SentenceOf (text : Bytes) : Type 0 where
   pub tree : Tree
   pub spelled : SpellsTree text tree
   pub spelled-once : (other : Tree) → SpellsTree text other → tree ≡ other
+  pub denominators-positive : DenominatorsPositive tree
   pub sentence : Sentence tree
