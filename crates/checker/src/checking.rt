@@ -59,9 +59,9 @@ fn check_reaching(
 pub(crate) fn check(index: &[u16], values: &[i32], rows: &[u16], header: Header) -> Verdict
     ensures { λ v. ⌜ ((tree : Tree) → Encodes tree header (now (index .entry)) (now (values .entry)) (now (rows .entry)) → verdictSays v ≡ checkOf tree) ⌝ }
 {
-    let v = feasibility::check_solutions(index, values, rows, header);
-    let Verdict::Fine = v else {
-        return v;
+    let solved = feasibility::check_solutions(index, values, rows, header);
+    let Verdict::Fine = solved else {
+        return solved;
     };
     match claims::end_to_reach(index, values, header) {
         End::Infinite => {

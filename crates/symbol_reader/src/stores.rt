@@ -87,21 +87,21 @@ pub(crate) fn ended(
     let Step::Next(n, c) = s else {
         return s;
     };
-    let cells = c.cells;
+    let cell = c.cells;
     let v = c.values;
-    if index.len() <= cells {
+    if index.len() <= cell {
         return Step::Stop(Refusal::TableTooSmall, place);
     }
     if values.len() / 2 <= v {
         return Step::Stop(Refusal::TableTooSmall, place);
     }
-    index[cells] = low(n);
+    index[cell] = low(n);
     store_value(values, v, f);
     Step::Next(
         n,
         Cursor {
             at: c.at,
-            cells: cells + 1,
+            cells: cell + 1,
             values: v + 1,
         },
     )
