@@ -1,7 +1,7 @@
 /* Exact arithmetic on fractions within a limit: product, sum, comparison, floor, ceiling.
  *
  * A fraction is a numerator num and a denominator den, in lowest terms: den > 0, the magnitudes of both are at most
- * 2,147,483,647, and no number above 1 divides both. 0 is 0/1. Every int32_t may be passed as an operand.
+ * 2,147,483,647, and no whole number but 1 divides both. 0 is 0/1. Every int32_t may be passed as an operand.
  *
  * Each function returns one of these numbers:
  *
@@ -18,7 +18,8 @@
  * so a result may be stored over an operand: fraction_sum(x.num, x.den, y.num, y.den, &x.num, &x.den).
  *
  * The functions keep no state, allocate nothing and call nothing. That they do what is said here for every operand is proved:
- * crates/fraction_c/src/lib.rt has the contracts, crates/fraction/specs the definitions that they cite.
+ * crates/fraction_c/src/lib.rt has the contracts, crates/fraction_c/specs what is returned and stored, and
+ * crates/arithmetic/specs the operations (Fraction.antt) and what is proved of their meaning (Meaning.antt).
  */
 #ifndef FRACTION_H
 #define FRACTION_H

@@ -17,7 +17,7 @@ use Rattle.integers.specs.Coprime.{Coprime, coprime-one, coprime-sym, sum-copri
 use Rattle.arithmetic.specs.Quotient.{Quotient, _≈_, _+Q_, _*Q_, lowest}
 use Rattle.arithmetic.specs.QuotientLaws.{Positive, lowest-is}
 use Rattle.arithmetic.specs.Fraction.{limit}
-use Rattle.arithmetic.specs.Parts.{Parts, over}
+use Rattle.arithmetic.specs.Parts.{over}
 
 -- ---- signs
 
@@ -71,7 +71,7 @@ zero-lowest s n b z h =
     (lowest-is (over (withSign s n) b) (over (withSign s 0) 1) h (omega arith) (coprime-one (natAbs (withSign s 0)))
     (sign-mul s 0 b ∙ ap (withSign s) (zero-mul b ∙ sym z ∙ sym (mul-one n)) ∙ sym (sign-mul s n 1)))
 
--- ---- a sum of quotients in lowest terms, whose denominators have no common divisor, is in lowest terms
+-- ---- a sum of quotients in lowest terms, whose denominators have no common divisor but 1, is in lowest terms
 
 pub sum-lowest : (x y : Quotient) → Positive x → Positive y → Coprime (natAbs (x .top)) (x .bottom) → Coprime (natAbs (y .top)) (y .bottom)
     → Coprime (x .bottom) (y .bottom) → x +Q y ≡ lowest (x +Q y)

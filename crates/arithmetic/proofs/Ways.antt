@@ -22,7 +22,7 @@ use Rattle.arithmetic.specs.Quotient.{Quotient, lowest}
 use Rattle.arithmetic.specs.QuotientLaws.{Positive}
 use Rattle.arithmetic.specs.Fraction.{limit, IsFraction, isFraction, exact, ratioOf, within, reducedOf, onFractions, after, arithmeticSays, order, less, equal, greater}
 use Rattle.arithmetic.specs.Meaning.{truth, and-true, true-and, exact-positive}
-use Rattle.arithmetic.specs.Parts.{Parts, Shaped, isShaped, lowestTerms, over}
+use Rattle.arithmetic.specs.Parts.{isShaped, over}
 use Rattle.arithmetic.specs.declared.Fraction.{Fraction}
 use Rattle.arithmetic.specs.declared.Ratio.{Ratio}
 use Rattle.arithmetic.specs.declared.Arithmetic.{Arithmetic}

@@ -10,7 +10,7 @@ use Rattle.integers.specs.Integers.{*ℤ-pos-one}
 use Rattle.arithmetic.specs.Outcome.{Outcome, gives, refuses}
 use Rattle.arithmetic.specs.Quotient.{_≈_, _+Q_, _*Q_}
 use Rattle.arithmetic.specs.Fraction.{limit, IsFraction, isFraction, exact, within, productOf, sumOf, after, addProductOf}
-use Rattle.arithmetic.specs.Meaning.{are-both, exact-unique}
+use Rattle.arithmetic.specs.Meaning.{are-both, exact-unique, product-then-sum}
 use Rattle.arithmetic.specs.Laws.{zeroF, zero-is, sum-zero, product-zero, product-is}
 use Rattle.arithmetic.specs.Parts.{over}
 use Rattle.arithmetic.specs.declared.Fraction.{Fraction}
@@ -47,9 +47,9 @@ abbrev pub wholeSum : ℤ → ℤ → ℤ → Outcome Fraction
 wholeSum s n m = after (within (over (n *ℤ m) 1)) (λ p. within (over (s +ℤ p .num) 1))
 
 pub whole-add : (s a b : Fraction) → IsWhole s → IsWhole a → IsWhole b → wholeSum (s .num) (a .num) (b .num) ≡ addProductOf s a b
-whole-add s a b u v w = go (leb (natAbs (a .num *ℤ b .num)) limit) refl
+whole-add s a b u v w = go (leb (natAbs (a .num *ℤ b .num)) limit) refl ∙ sym (product-then-sum s a b (u .is, v .is, w .is))
   where
-    go : (t : Bool) → leb (natAbs (a .num *ℤ b .num)) limit ≡ t → wholeSum (s .num) (a .num) (b .num) ≡ addProductOf s a b
+    go : (t : Bool) → leb (natAbs (a .num *ℤ b .num)) limit ≡ t → wholeSum (s .num) (a .num) (b .num) ≡ after (productOf a b) (sumOf s)
     go true e =
         let z = a .num *ℤ b .num in
         let p : Fraction = record { num = z; den = pos 1 } in
@@ -70,4 +70,5 @@ pub zero-added : (s a b : Fraction) → IsFraction s → IsFraction a → IsFrac
 unfolding _≈_
 zero-added s a b u v w e =
     let zero : b ≡ zeroF = exact-unique b zeroF w zero-is (rw (e, zero-*ℤ (pos (natAbs (b .den))))) in
-    ap (addProductOf s a) zero ∙ ap (λ (o : Outcome Fraction). after o (sumOf s)) (product-zero a v) ∙ sum-zero s u
+    product-then-sum s a b (u, v, w) ∙ ap (λ (g : Fraction). after (productOf a g) (sumOf s)) zero
+    ∙ ap (λ (o : Outcome Fraction). after o (sumOf s)) (product-zero a v) ∙ sum-zero s u

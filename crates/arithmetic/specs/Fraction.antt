@@ -1,9 +1,9 @@
--- Fractions within the limit, and the five operations on them (document 01, "Reasons of refusal" and "Solutions, then
+-- Fractions within the limit, and the operations on them (document 01, "Reasons of refusal" and "Solutions, then
 -- derivations"): what each gives or refuses, for every pair of numbers whatever.
 -- Assumes nothing.
 use mathlib.Core.Path.{_≡_}
 use mathlib.Core.Bool.{Bool, true, false, cond, not, _&&_}
-use Prim.Native.Nat.{ℕ, _≤_}
+use Prim.Native.Nat.{ℕ, _≤_, _∣_}
 use lib.Dec.{leb, eqb}
 use lib.IntN.{ℤ, pos, natAbs, _*ℤ_}
 use lib.Signed.{ltZ, _<ℤ_}
@@ -24,12 +24,13 @@ use Rattle.arithmetic.specs.declared.Rounding.the-variants as rounding
 abbrev pub limit : ℕ
 limit = 2147483647
 
--- "a fraction in lowest terms within the limit": in words, and as a test
+-- "a fraction in lowest terms within the limit": in words, where lowest terms are that no whole number but 1 divides both
+-- parts, and as a test
 pub record IsFraction (f : Fraction) : Type 0 where
   pub positive : pos 0 <ℤ f .den
   pub num-within : natAbs (f .num) ≤ limit
   pub den-within : natAbs (f .den) ≤ limit
-  pub lowest-terms : gcd (natAbs (f .num)) (natAbs (f .den)) ≡ 1
+  pub lowest-terms : (k : ℕ) → k ∣ natAbs (f .num) → k ∣ natAbs (f .den) → k ≡ 1
 
 unfoldable pub isFraction : Fraction → Bool
 isFraction f =
@@ -68,13 +69,15 @@ productOf a b = onFractions (isFraction a && isFraction b) (within (lowest (exac
 abbrev pub sumOf : Fraction → Fraction → Outcome Fraction
 sumOf a b = onFractions (isFraction a && isFraction b) (within (lowest (exact a +Q exact b)))
 
--- a sum and a product more: the product, then the sum with what it gives
+-- what follows an outcome that gives a fraction; a refusal stays
 abbrev pub after : Outcome Fraction → (Fraction → Outcome Fraction) → Outcome Fraction
 after (gives p) next = next p
 after (refuses n) next = refuses n
 
+-- "(product, then sum for that variable)": a sum and a product more. 4 if one of the three is no fraction; else the product, then
+-- the sum with what it gives, and 12 at the first too wide
 abbrev pub addProductOf : Fraction → Fraction → Fraction → Outcome Fraction
-addProductOf sum a b = after (productOf a b) (sumOf sum)
+addProductOf sum a b = onFractions (isFraction sum && (isFraction a && isFraction b)) (after (productOf a b) (sumOf sum))
 
 -- "Comparisons are exact, never 12"
 pub data Order : Type 0 where

@@ -3,13 +3,13 @@
 use mathlib.Core.Path.{_≡_, refl, sym, _∙_, ap}
 use mathlib.Core.Bool.{Bool, true, false, _&&_}
 use Prim.Native.Nat.{ℕ, _*_}
-use native.Mathlib.Nat.{mul-comm, mul-one, one-mul}
+use native.Mathlib.Nat.{mul-comm, mul-one, one-mul, eq-one-of-dvd-one}
 use lib.Dec.{lit≤}
-use lib.IntN.{ℤ, pos, natAbs, _+ℤ_, _*ℤ_, *ℤ-comm, *ℤ-zero, zero-*ℤ, +ℤ-comm, +ℤ-idr}
-use Rattle.integers.specs.Gcd.{gcd, euclid}
+use lib.IntN.{ℤ, pos, natAbs, _+ℤ_, _*ℤ_, *ℤ-comm, *ℤ-zero, zero-*ℤ, +ℤ-idr}
 use Rattle.integers.specs.Integers.{*ℤ-pos-one, one-*ℤ}
 use Rattle.arithmetic.specs.Outcome.{Outcome, gives, refuses}
 use Rattle.arithmetic.specs.Quotient.{Quotient, _≈_, _+Q_, _*Q_, lowest}
+use Rattle.arithmetic.specs.QuotientLaws.{+Q-comm}
 use Rattle.arithmetic.specs.Fraction.{IsFraction, isFraction, exact, within, onFractions, productOf, sumOf}
 use Rattle.arithmetic.specs.Meaning.{Means, product-means, sum-means}
 use Rattle.arithmetic.specs.declared.Fraction.{Fraction}
@@ -24,9 +24,6 @@ and-comm false false = refl
 
 *Q-comm : (x y : Quotient) → x *Q y ≡ y *Q x
 *Q-comm x y = rw (*ℤ-comm (x .top) (y .top), mul-comm (x .bottom) (y .bottom))
-
-pub +Q-comm : (x y : Quotient) → x +Q y ≡ y +Q x
-+Q-comm x y = rw (+ℤ-comm (x .top *ℤ pos (y .bottom)) (y .top *ℤ pos (x .bottom)), mul-comm (x .bottom) (y .bottom))
 
 pub product-comm : (a b : Fraction) → productOf a b ≡ productOf b a
 product-comm a b = rw (and-comm (isFraction a) (isFraction b), *Q-comm (exact a) (exact b))
@@ -43,12 +40,10 @@ abbrev pub oneF : Fraction
 oneF = record { num = pos 1; den = pos 1 }
 
 pub zero-is : IsFraction zeroF
-unfolding gcd euclid
-zero-is = record { positive = record { lt = tt }; num-within = lit≤ tt; den-within = lit≤ tt; lowest-terms = refl }
+zero-is = record { positive = record { lt = tt }; num-within = lit≤ tt; den-within = lit≤ tt; lowest-terms = λ k p q. eq-one-of-dvd-one q }
 
 pub one-is : IsFraction oneF
-unfolding gcd euclid
-one-is = record { positive = record { lt = tt }; num-within = lit≤ tt; den-within = lit≤ tt; lowest-terms = refl }
+one-is = record { positive = record { lt = tt }; num-within = lit≤ tt; den-within = lit≤ tt; lowest-terms = λ k p q. eq-one-of-dvd-one q }
 
 module _ (a : Fraction) (v : IsFraction a) where
   pub sum-zero : sumOf a zeroF ≡ gives a

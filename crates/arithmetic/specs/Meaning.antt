@@ -3,22 +3,23 @@
 -- the order of the rational numbers; floor is the greatest whole number at most the value and ceiling the least at least it.
 -- Assumes nothing.
 use mathlib.Core.Path.{_≡_, refl, sym, _∙_, ap, ap₂, subst}
-use mathlib.Core.Logic.{_↔_}
+use mathlib.Core.Logic.{_↔_, _⊎_, inl, inr, ⊎-elim}
 use mathlib.Core.Bool.{Bool, true, false, not, cond, _&&_}
 use Prim.Native.Nat.{ℕ, _*_, _≤_, _<_}
-use native.Mathlib.Nat.{mul-pos}
+use native.Mathlib.Nat.{mul-pos, pos-of-ne-zero}
 use native.Mathlib.Omega.{arith}
-use borrow.Author.Tests.{ltb-true, leb-true, eqb-true, le-leb, lt-ltb, eq-eqb, ne-eqb}
+use borrow.Author.Tests.{not-true, ltb-true, leb-true, eqb-true, eqb-false, le-leb, lt-ltb, eq-eqb, ne-eqb}
 use lib.Dec.{T, leb, eqb}
 use lib.IntN.{ℤ, pos, negsuc, natAbs, _*ℤ_}
 use lib.Signed.{ltZ, ltZ-no, _≤ℤ_, _<ℤ_}
 use Rattle.integers.specs.Integers.{≤ℤ-antisym}
 use Rattle.integers.specs.Gcd.{gcd}
+use Rattle.integers.specs.Coprime.{Coprime, coprime-of, coprime-common}
 use Rattle.integers.specs.Signs.{withSign}
 use Rattle.arithmetic.specs.Outcome.{Outcome, gives, refuses}
 use Rattle.arithmetic.specs.Quotient.{Quotient, _≈_, _≤Q_, _<Q_, _+Q_, _*Q_, wholeQ, lowest, floorQ, ceilingQ}
-use Rattle.arithmetic.specs.QuotientLaws.{Positive, ≈-sym, ≤Q-of-≈, ≤Q-of-<, <Q-clash, lowest-positive, lowest-coprime, lowest-equal, lowest-terms-unique, lowest-is, floor-below, floor-greatest, ceiling-above, ceiling-least}
-use Rattle.arithmetic.specs.Fraction.{limit, IsFraction, isFraction, exact, within, onFractions, reducedOf, productOf, sumOf, Order, less, equal, greater, order, orderQ, compareOf, floorOf, ceilingOf}
+use Rattle.arithmetic.specs.QuotientLaws.{Positive, ≈-sym, ≈-trans, +Q-cong-right, ≤Q-of-≈, ≤Q-of-<, <Q-clash, lowest-positive, lowest-coprime, lowest-equal, lowest-terms-unique, lowest-is, floor-below, floor-greatest, ceiling-above, ceiling-least}
+use Rattle.arithmetic.specs.Fraction.{limit, IsFraction, isFraction, exact, within, onFractions, reducedOf, productOf, sumOf, after, addProductOf, Order, less, equal, greater, order, orderQ, compareOf, floorOf, ceilingOf}
 use Rattle.arithmetic.specs.declared.Fraction.{Fraction}
 
 -- ---- the test and the words
@@ -44,8 +45,12 @@ fraction-is f e =
       positive = record { lt = subst T (sym (p .0)) tt };
       num-within = leb-true _ _ (q .0);
       den-within = leb-true _ _ (r .0);
-      lowest-terms = eqb-true _ _ (r .1);
+      lowest-terms = λ k. coprime-common (natAbs (f .num)) (natAbs (f .den)) k (eqb-true _ _ (r .1));
     }
+
+-- in lowest terms: the greatest common divisor is 1
+pub parts-coprime : (f : Fraction) → IsFraction f → Coprime (natAbs (f .num)) (natAbs (f .den))
+parts-coprime f v = coprime-of (natAbs (f .num)) (natAbs (f .den)) (v .lowest-terms)
 
 pub truth : (b : Bool) → T b → b ≡ true
 truth true t = refl
@@ -54,7 +59,7 @@ truth false t = absurd t
 pub is-fraction : (f : Fraction) → IsFraction f → isFraction f ≡ true
 unfolding isFraction
 is-fraction f v =
-    rw (truth (ltZ (pos 0) (f .den)) (v .positive .lt), le-leb (natAbs (f .num)) limit (v .num-within), le-leb (natAbs (f .den)) limit (v .den-within), eq-eqb _ 1 (v .lowest-terms))
+    rw (truth (ltZ (pos 0) (f .den)) (v .positive .lt), le-leb (natAbs (f .num)) limit (v .num-within), le-leb (natAbs (f .den)) limit (v .den-within), eq-eqb _ 1 (parts-coprime f v))
 
 -- a fraction's denominator is its magnitude, and positive
 pub den-is : (f : Fraction) → IsFraction f → f .den ≡ pos (natAbs (f .den))
@@ -74,7 +79,7 @@ exact-positive f v = go (f .den) (v .positive)
 -- fractions that stand for one rational number are one
 pub exact-unique : (f g : Fraction) → IsFraction f → IsFraction g → exact f ≈ exact g → f ≡ g
 exact-unique f g v w e =
-    let same : exact f ≡ exact g = lowest-terms-unique (exact f) (exact g) (exact-positive f v) (exact-positive g w) (v .lowest-terms) (w .lowest-terms) e in
+    let same : exact f ≡ exact g = lowest-terms-unique (exact f) (exact g) (exact-positive f v) (exact-positive g w) (parts-coprime f v) (parts-coprime g w) e in
     let nums : f .num ≡ g .num = ap (λ (x : Quotient). x .top) same in
     let dens : f .den ≡ g .den = den-is f v ∙ ap (λ (x : Quotient). pos (x .bottom)) same ∙ sym (den-is g w) in
     ap₂ {A = ℤ} {B = ℤ} {C = Fraction} (λ n d. record { num = n; den = d }) nums dens
@@ -95,7 +100,7 @@ module _ (x : Quotient) (h : Positive x) where
         positive = record { lt = subst T (sym (lt-ltb 0 (low .bottom) (lowest-positive x h))) tt };
         num-within = leb-true _ _ (p .0);
         den-within = leb-true _ _ (p .1);
-        lowest-terms = lowest-coprime x h;
+        lowest-terms = λ k. coprime-common (natAbs (low .top)) (low .bottom) k (lowest-coprime x h);
       }
 
   -- a fraction that is given is one, and equals x
@@ -111,7 +116,7 @@ module _ (x : Quotient) (h : Positive x) where
   pub within-complete : (f : Fraction) → IsFraction f → exact f ≈ x → within (lowest x) ≡ gives f
   unfolding within
   within-complete f v e =
-      let same : low ≡ exact f = lowest-is x (exact f) h (exact-positive f v) (v .lowest-terms) e in
+      let same : low ≡ exact f = lowest-is x (exact f) h (exact-positive f v) (parts-coprime f v) e in
       rw (same, le-leb (natAbs (f .num)) limit (v .num-within), le-leb (natAbs (f .den)) limit (v .den-within), ← den-is f v)
 
   -- 12 is all that is ever refused, ..
@@ -127,11 +132,56 @@ module _ (x : Quotient) (h : Positive x) where
       go true n = absurd (none made (made-is n) (lowest-equal x h))
       go false n = refl
 
--- what an outcome says of the exact result x of an operation on a and b
-pub record Means (a b : Fraction) (x : Quotient) (o : Outcome Fraction) : Type 0 where
-  pub refuses-4 : (o ≡ refuses 4) ↔ (IsFraction a × IsFraction b → ⊥)
-  pub gives-exactly : (f : Fraction) → (o ≡ gives f) ↔ ((IsFraction a × IsFraction b) × (IsFraction f × (exact f ≈ x)))
-  pub refuses-12 : (o ≡ refuses 12) ↔ ((IsFraction a × IsFraction b) × ((f : Fraction) → IsFraction f → exact f ≈ x → ⊥))
+-- some fraction equals x; and x is too wide where none does
+abbrev pub Fits : Quotient → Type 0
+Fits x = (f : Fraction) × IsFraction f × (exact f ≈ x)
+
+abbrev pub TooWide : Quotient → Type 0
+TooWide x = (f : Fraction) → IsFraction f → exact f ≈ x → ⊥
+
+-- "4 if an operand is not a fraction in lowest terms within the limit, else 12 for a product or sum too wide": what an outcome
+-- says of the exact result x of an operation
+pub record Means (Operands : Type 0) (x : Quotient) (o : Outcome Fraction) : Type 0 where
+  pub refuses-4 : (o ≡ refuses 4) ↔ (Operands → ⊥)
+  pub gives-exactly : (f : Fraction) → (o ≡ gives f) ↔ (Operands × (IsFraction f × (exact f ≈ x)))
+  pub refuses-12 : (o ≡ refuses 12) ↔ (Operands × TooWide x)
+
+apart : {A : Type 0} (o : Outcome A) (n : ℕ) (a : A) → o ≡ refuses n → o ≡ gives a → ⊥
+apart o n a e f = let z : _≡_ {A = ℕ} 0 1 = cc in omega arith
+
+-- `within` gives a fraction or refuses with 12
+within-says : (x : Quotient) → ((f : Fraction) × (within x ≡ gives f)) ⊎ (within x ≡ refuses 12)
+unfolding within
+within-says x = go (leb (natAbs (x .top)) limit && leb (x .bottom) limit)
+  where
+    made-of : Fraction
+    made-of = record { num = x .top; den = pos (x .bottom) }
+
+    go : (t : Bool) → ((f : Fraction) × (cond t (gives made-of) (refuses 12) ≡ gives f)) ⊎ (cond t (gives made-of) (refuses 12) ≡ refuses 12)
+    go true = inl (made-of, refl)
+    go false = inr refl
+
+within-not-4 : (x : Quotient) → within x ≡ refuses 4 → ⊥
+within-not-4 x e = ⊎-elim (λ g. apart (within x) 4 (g .0) e (g .1)) (λ r. let z : _≡_ {A = ℕ} 12 4 = cc in omega arith) (within-says x)
+
+no-operands : {Operands : Type 0} → (false ≡ true) ↔ Operands → Operands → ⊥
+no-operands e v = subst (λ (x : Bool). T (not x)) (e .1 v) tt
+
+means : {Operands : Type 0} (t : Bool) (x : Quotient) → (t ≡ true) ↔ Operands → (Operands → Positive x) → Means Operands x (onFractions t (within (lowest x)))
+unfolding onFractions
+means true x e h =
+    let v = e .0 refl in
+    record {
+      refuses-4 = ((λ r. absurd (within-not-4 (lowest x) r)), λ n. absurd (n v));
+      gives-exactly = λ f. ((λ r. (v, within-sound x (h v) f r)), λ p. within-complete x (h v) f (p .1 .0) (p .1 .1));
+      refuses-12 = ((λ r. (v, within-else x (h v) r)), λ p. within-none x (h v) (p .1));
+    }
+means false x e h =
+    record {
+      refuses-4 = ((λ r. no-operands e), λ n. refl);
+      gives-exactly = λ f. ((λ r. absurd (apart (refuses 4) 4 f refl r)), λ p. absurd (no-operands e (p .0)));
+      refuses-12 = ((λ r. absurd (let z : _≡_ {A = ℕ} 4 12 = cc in omega arith)), λ p. absurd (no-operands e (p .0)));
+    }
 
 pub both-are : (a b : Fraction) → isFraction a && isFraction b ≡ true → IsFraction a × IsFraction b
 both-are a b e = let p = and-true (isFraction a) (isFraction b) e in (fraction-is a (p .0), fraction-is b (p .1))
@@ -139,58 +189,116 @@ both-are a b e = let p = and-true (isFraction a) (isFraction b) e in (fraction-i
 pub are-both : (a b : Fraction) → IsFraction a × IsFraction b → isFraction a && isFraction b ≡ true
 are-both a b v = true-and (isFraction a) (isFraction b) (is-fraction a (v .0)) (is-fraction b (v .1))
 
-apart : {A : Type 0} (o : Outcome A) (n : ℕ) (a : A) → o ≡ refuses n → o ≡ gives a → ⊥
-apart o n a e f = let z : _≡_ {A = ℕ} 0 1 = cc in omega arith
+pub product-means : (a b : Fraction) → Means (IsFraction a × IsFraction b) (exact a *Q exact b) (productOf a b)
+product-means a b =
+    means (isFraction a && isFraction b) (exact a *Q exact b) (both-are a b, are-both a b)
+    (λ v. mul-pos (exact-positive a (v .0)) (exact-positive b (v .1)))
 
-within-not-4 : (x : Quotient) → within x ≡ refuses 4 → ⊥
-unfolding within
-within-not-4 x e = go (leb (natAbs (x .top)) limit && leb (x .bottom) limit) e
-  where
-    go : (t : Bool) → cond {A = Outcome Fraction} t (gives (record { num = x .top; den = pos (x .bottom) })) (refuses 12) ≡ refuses 4 → ⊥
-    go true e = let z : _≡_ {A = ℕ} 0 1 = cc in omega arith
-    go false e = let z : _≡_ {A = ℕ} 12 4 = cc in omega arith
-
-means : (a b : Fraction) (x : Quotient) → (IsFraction a × IsFraction b → Positive x) → Means a b x (onFractions (isFraction a && isFraction b) (within (lowest x)))
-unfolding onFractions
-means a b x h = go (isFraction a && isFraction b) refl
-  where
-    go : (t : Bool) → isFraction a && isFraction b ≡ t → Means a b x (cond t (within (lowest x)) (refuses 4))
-    go true e =
-        let v = both-are a b e in
-        record {
-          refuses-4 = ((λ r. absurd (within-not-4 (lowest x) r)), λ n. absurd (n v));
-          gives-exactly = λ f. ((λ r. (v, within-sound x (h v) f r)), λ p. within-complete x (h v) f (p .1 .0) (p .1 .1));
-          refuses-12 = ((λ r. (v, within-else x (h v) r)), λ p. within-none x (h v) (p .1));
-        }
-    go false e =
-        let no : IsFraction a × IsFraction b → ⊥ = λ v. let z : _≡_ {A = Bool} false true = sym e ∙ are-both a b v in subst (λ (x : Bool). T (not x)) z tt in
-        record {
-          refuses-4 = ((λ r. no), λ n. refl);
-          gives-exactly = λ f. ((λ r. absurd (apart (refuses 4) 4 f refl r)), λ p. absurd (no (p .0)));
-          refuses-12 = ((λ r. absurd (let z : _≡_ {A = ℕ} 4 12 = cc in omega arith)), λ p. absurd (no (p .0)));
-        }
-
-pub product-means : (a b : Fraction) → Means a b (exact a *Q exact b) (productOf a b)
-product-means a b = means a b (exact a *Q exact b) (λ v. mul-pos (exact-positive a (v .0)) (exact-positive b (v .1)))
-
-pub sum-means : (a b : Fraction) → Means a b (exact a +Q exact b) (sumOf a b)
-sum-means a b = means a b (exact a +Q exact b) (λ v. mul-pos (exact-positive a (v .0)) (exact-positive b (v .1)))
+pub sum-means : (a b : Fraction) → Means (IsFraction a × IsFraction b) (exact a +Q exact b) (sumOf a b)
+sum-means a b =
+    means (isFraction a && isFraction b) (exact a +Q exact b) (both-are a b, are-both a b)
+    (λ v. mul-pos (exact-positive a (v .0)) (exact-positive b (v .1)))
 
 -- n / d, where d is not 0: the fraction that equals it, or 12 where none does
-pub record MeansReduced (negative : Bool) (n d : ℕ) : Type 0 where
-  pub zero-refused : d ≡ 0 → reducedOf negative n d ≡ refuses 4
-  pub reduced-exactly : 0 < d → (f : Fraction) → (reducedOf negative n d ≡ gives f) ↔ (IsFraction f × (exact f ≈ record { top = withSign negative n; bottom = d }))
-  pub reduced-refused : 0 < d → (reducedOf negative n d ≡ refuses 12) ↔ ((f : Fraction) → IsFraction f → exact f ≈ record { top = withSign negative n; bottom = d } → ⊥)
-
-pub reduced-means : (negative : Bool) (n d : ℕ) → MeansReduced negative n d
-unfolding onFractions
+pub reduced-means : (negative : Bool) (n d : ℕ) → Means (0 < d) (record { top = withSign negative n; bottom = d }) (reducedOf negative n d)
 reduced-means negative n d =
-    let x : Quotient = record { top = withSign negative n; bottom = d } in
-    record {
-      zero-refused = λ e. rw e refl;
-      reduced-exactly = λ h f. rw (ne-eqb d 0 (omega arith)) (within-sound x h f, λ p. within-complete x h f (p .0) (p .1));
-      reduced-refused = λ h. rw (ne-eqb d 0 (omega arith)) (within-else x h, within-none x h);
-    }
+    means (not (eqb d 0)) (record { top = withSign negative n; bottom = d })
+    ((λ e. pos-of-ne-zero (eqb-false d 0 (not-true (eqb d 0) e))), λ h. ap not (ne-eqb d 0 (λ z. omega arith))) (λ h. h)
+
+-- ---- a sum and a product more
+
+-- the same of a product p and then the sum x with it: 12 where either is too wide
+pub record MeansInTwo (Operands : Type 0) (p x : Quotient) (o : Outcome Fraction) : Type 0 where
+  pub refuses-4 : (o ≡ refuses 4) ↔ (Operands → ⊥)
+  pub gives-exactly : (f : Fraction) → (o ≡ gives f) ↔ (Operands × Fits p × (IsFraction f × (exact f ≈ x)))
+  pub refuses-12 : (o ≡ refuses 12) ↔ (Operands × (TooWide p ⊎ TooWide x))
+
+module _ (s a b : Fraction) where
+  abbrev pub All : Type 0
+  All = IsFraction s × IsFraction a × IsFraction b
+
+  abbrev pub all : Bool
+  all = isFraction s && (isFraction a && isFraction b)
+
+  pub all-are : all ≡ true → All
+  all-are e =
+      let p = and-true (isFraction s) (isFraction a && isFraction b) e in
+      let q = both-are a b (p .1) in
+      (fraction-is s (p .0), q .0, q .1)
+
+  are-all : All → all ≡ true
+  are-all v = true-and (isFraction s) (isFraction a && isFraction b) (is-fraction s (v .0)) (are-both a b (v .1, v .2))
+
+  -- where all three are fractions, the product and then the sum
+  pub product-then-sum : All → addProductOf s a b ≡ after (productOf a b) (sumOf s)
+  unfolding onFractions
+  product-then-sum v =
+      let worked = after (productOf a b) (sumOf s) in
+      subst (λ (t : Bool). onFractions t worked ≡ worked) (sym (are-all v)) refl
+
+  abbrev product : Quotient
+  product = exact a *Q exact b
+
+  -- a fraction that equals the product stands for it in the sum
+  module _ (v : All) (p : Fraction) (w : IsFraction p) (e : exact p ≈ product) where
+    same-sum : (exact s +Q exact p) ≈ (exact s +Q product)
+    same-sum = +Q-cong-right (exact p) product (exact s) e
+
+    with-product : (f : Fraction) → (exact f ≈ (exact s +Q exact p)) ↔ (exact f ≈ (exact s +Q product))
+    with-product f = (
+      (λ q. ≈-trans (exact f) (exact s +Q exact p) (exact s +Q product) (mul-pos (exact-positive s (v .0)) (exact-positive p w)) q same-sum),
+      λ q. ≈-trans (exact f) (exact s +Q product) (exact s +Q exact p) (mul-pos (exact-positive s (v .0)) (mul-pos (exact-positive a (v .1)) (exact-positive b (v .2)))) q (≈-sym (exact s +Q exact p) (exact s +Q product) same-sum),
+    )
+
+    fits : (o : Outcome Fraction) → o ≡ sumOf s p → MeansInTwo All product (exact s +Q product) o
+    fits o same =
+        let m = sum-means s p in
+        record {
+          refuses-4 = ((λ r. absurd (m .refuses-4 .0 (sym same ∙ r) (v .0, w))), λ n. absurd (n v));
+          gives-exactly = λ f. (
+            (λ r. let q = m .gives-exactly f .0 (sym same ∙ r) .1 in (v, (p, w, e), (q .0, with-product f .0 (q .1)))),
+            λ q. same ∙ m .gives-exactly f .1 ((v .0, w), (q .2 .0, with-product f .1 (q .2 .1))),
+          );
+          refuses-12 = (
+            (λ r. (v, inr (λ f i q. m .refuses-12 .0 (sym same ∙ r) .1 f i (with-product f .1 q)))),
+            λ q. same ∙ m .refuses-12 .1 ((v .0, w), λ f i r. ⊎-elim (λ wide. wide p w e) (λ wide. wide f i (with-product f .0 r)) (q .1)),
+          );
+        }
+
+  -- no fraction equals the product
+  wide : All → TooWide product → (o : Outcome Fraction) → o ≡ refuses 12 → MeansInTwo All product (exact s +Q product) o
+  wide v none o same =
+      record {
+        refuses-4 = ((λ r. absurd (let z : _≡_ {A = ℕ} 12 4 = cc in omega arith)), λ n. absurd (n v));
+        gives-exactly = λ f. ((λ r. absurd (apart o 12 f same r)), λ q. absurd (none (q .1 .0) (q .1 .1) (q .1 .2)));
+        refuses-12 = ((λ r. (v, inl none)), λ q. same);
+      }
+
+  -- one of the three is no fraction
+  refused : (All → ⊥) → (o : Outcome Fraction) → o ≡ refuses 4 → MeansInTwo All product (exact s +Q product) o
+  refused not-all o same =
+      record {
+        refuses-4 = ((λ r. not-all), λ n. same);
+        gives-exactly = λ f. ((λ r. absurd (apart o 4 f same r)), λ q. absurd (not-all (q .0)));
+        refuses-12 = ((λ r. absurd (let z : _≡_ {A = ℕ} 4 12 = cc in omega arith)), λ q. absurd (not-all (q .0)));
+      }
+
+  pub add-product-means : MeansInTwo All product (exact s +Q product) (addProductOf s a b)
+  unfolding onFractions
+  add-product-means = go all refl
+    where
+      known : All → MeansInTwo All product (exact s +Q product) (addProductOf s a b)
+      known v =
+          let worked : productOf a b ≡ within (lowest product) = rw (are-both a b (v .1, v .2)) in
+          let then : (o : Outcome Fraction) → within (lowest product) ≡ o → addProductOf s a b ≡ after o (sumOf s) = λ o e. product-then-sum v ∙ ap (λ (o : Outcome Fraction). after o (sumOf s)) (worked ∙ e) in
+          ⊎-elim
+          (λ g. let q = product-means a b .gives-exactly (g .0) .0 (worked ∙ g .1) .1 in fits v (g .0) (q .0) (q .1) (addProductOf s a b) (then (gives (g .0)) (g .1)))
+          (λ r. wide v (product-means a b .refuses-12 .0 (worked ∙ r) .1) (addProductOf s a b) (then (refuses 12) r))
+          (within-says (lowest product))
+
+      go : (t : Bool) → all ≡ t → MeansInTwo All product (exact s +Q product) (addProductOf s a b)
+      go true e = known (all-are e)
+      go false e = refused (λ v. no-operands ((λ z. v), λ w. sym e ∙ are-all w) v) (addProductOf s a b) (rw e)
 
 -- ---- comparison: the order of the rational numbers, which `QuotientLaws` proves total and transitive
 
@@ -227,27 +335,35 @@ order-only x y greater less h k = absurd (<Q-clash y x h (≤Q-of-< x y k))
 order-only x y greater equal h k = absurd (<Q-clash y x h (≤Q-of-≈ x y k))
 order-only x y greater greater h k = refl
 
--- an operation that is never too wide: 4 exactly where an operand is no fraction, else its result
-pub record Answers {A : Type 0} (Operands : Type 0) (result : A) (o : Outcome A) : Type 0 where
+-- an operation that is never too wide: 4 exactly where an operand is no fraction, else its result, of which `Result` says what it is
+pub record Answers {A : Type 0} (Operands : Type 0) (Result : A → Type 0) (o : Outcome A) : Type 0 where
   pub refuses-4 : (o ≡ refuses 4) ↔ (Operands → ⊥)
-  pub gives-it : (r : A) → (o ≡ gives r) ↔ (Operands × (result ≡ r))
+  pub gives-it : (r : A) → (o ≡ gives r) ↔ (Operands × Result r)
+  pub never-12 : o ≡ refuses 12 → ⊥
 
-answers : {A Operands : Type 0} (t : Bool) (result : A) → (t ≡ true) ↔ Operands → Answers Operands result (onFractions t (gives result))
+-- of a result that is worked out, and is the only one
+answers : {A Operands : Type 0} {Result : A → Type 0} (t : Bool) (result : A) → (t ≡ true) ↔ Operands → (Operands → Result result)
+    → (Operands → (r : A) → Result r → result ≡ r) → Answers Operands Result (onFractions t (gives result))
 unfolding onFractions
-answers true result e =
+answers {Result = Result} true result e is only =
+    let v = e .0 refl in
     record {
-      refuses-4 = ((λ r. absurd (apart (gives result) 4 result r refl)), λ n. absurd (n (e .0 refl)));
-      gives-it = λ s. ((λ r. (e .0 refl, (cc))), λ p. ap gives (p .1));
+      refuses-4 = ((λ r. absurd (apart (gives result) 4 result r refl)), λ n. absurd (n v));
+      gives-it = λ s. ((λ r. (v, let same : result ≡ s = cc in subst Result same (is v))), λ p. ap gives (only v s (p .1)));
+      never-12 = λ r. apart (gives result) 12 result r refl;
     }
-answers {Operands = Operands} false result e =
-    let no : Operands → ⊥ = λ v. subst (λ (x : Bool). T (not x)) (e .1 v) tt in
+answers false result e is only =
     record {
-      refuses-4 = ((λ r. no), λ n. refl);
-      gives-it = λ s. ((λ r. absurd (apart (refuses 4) 4 s refl r)), λ p. absurd (no (p .0)));
+      refuses-4 = ((λ r. no-operands e), λ n. refl);
+      gives-it = λ s. ((λ r. absurd (apart (refuses 4) 4 s refl r)), λ p. absurd (no-operands e (p .0)));
+      never-12 = λ r. let z : _≡_ {A = ℕ} 4 12 = cc in omega arith;
     }
 
-pub compare-answers : (a b : Fraction) → Answers (IsFraction a × IsFraction b) (orderQ (exact a) (exact b)) (compareOf a b)
-compare-answers a b = answers (isFraction a && isFraction b) (orderQ (exact a) (exact b)) (both-are a b, are-both a b)
+pub compare-answers : (a b : Fraction) → Answers (IsFraction a × IsFraction b) (Says (exact a) (exact b)) (compareOf a b)
+compare-answers a b =
+    let x = exact a in
+    let y = exact b in
+    answers (isFraction a && isFraction b) (orderQ x y) (both-are a b, are-both a b) (λ v. order-says x y) (λ v r. order-only x y (orderQ x y) r (order-says x y))
 
 -- ---- floor and ceiling
 
@@ -266,8 +382,21 @@ floor-is x h = record { below = floor-below x h; greatest = floor-greatest x h }
 pub ceiling-is : (x : Quotient) → Positive x → IsCeiling x (ceilingQ x)
 ceiling-is x h = record { above = ceiling-above x h; least = ceiling-least x h }
 
-pub floor-answers : (a : Fraction) → Answers (IsFraction a) (floorQ (exact a)) (floorOf a)
-floor-answers a = answers (isFraction a) (floorQ (exact a)) (fraction-is a, is-fraction a)
+-- there is one
+pub floor-one : (x : Quotient) (y z : ℤ) → IsFloor x y → IsFloor x z → y ≡ z
+floor-one x y z f g = ≤ℤ-antisym y z (g .greatest y (f .below)) (f .greatest z (g .below))
 
-pub ceiling-answers : (a : Fraction) → Answers (IsFraction a) (ceilingQ (exact a)) (ceilingOf a)
-ceiling-answers a = answers (isFraction a) (ceilingQ (exact a)) (fraction-is a, is-fraction a)
+pub ceiling-one : (x : Quotient) (y z : ℤ) → IsCeiling x y → IsCeiling x z → y ≡ z
+ceiling-one x y z f g = ≤ℤ-antisym y z (f .least z (g .above)) (g .least y (f .above))
+
+pub floor-answers : (a : Fraction) → Answers (IsFraction a) (IsFloor (exact a)) (floorOf a)
+floor-answers a =
+    let x = exact a in
+    answers (isFraction a) (floorQ x) (fraction-is a, is-fraction a) (λ v. floor-is x (exact-positive a v))
+    (λ v z. floor-one x (floorQ x) z (floor-is x (exact-positive a v)))
+
+pub ceiling-answers : (a : Fraction) → Answers (IsFraction a) (IsCeiling (exact a)) (ceilingOf a)
+ceiling-answers a =
+    let x = exact a in
+    answers (isFraction a) (ceilingQ x) (fraction-is a, is-fraction a) (λ v. ceiling-is x (exact-positive a v))
+    (λ v z. ceiling-one x (ceilingQ x) z (ceiling-is x (exact-positive a v)))

@@ -5,10 +5,10 @@
 use mathlib.Core.Path.{_≡_, refl, sym, _∙_, ap, ap₂, subst}
 use mathlib.Core.Logic.{_⊎_, ⊎-elim}
 use Prim.Native.Nat.{ℕ, zero, suc, one, _+_, _*_, _/_, _≤_, _<_, _∣_}
-use native.Mathlib.Nat.{mul-div-cancel', pos-of-ne-zero, mul-zero, suc-mul, add-mul, one-mul, div-mul-le-self, lt-div-mul-add}
+use native.Mathlib.Nat.{mul-comm, mul-div-cancel', pos-of-ne-zero, mul-zero, suc-mul, add-mul, one-mul, div-mul-le-self, lt-div-mul-add}
 use native.Mathlib.Omega.{arith}
 use lib.Dec.{le→leb, lt→ltb}
-use lib.IntN.{ℤ, pos, negsuc, negℤ, natAbs, sucℤ, _+ℤ_, _*ℤ_, *ℤ-comm, +ℤ-one, negℤ-negℤ}
+use lib.IntN.{ℤ, pos, negsuc, negℤ, natAbs, sucℤ, _+ℤ_, _*ℤ_, *ℤ-comm, +ℤ-comm, +ℤ-one, negℤ-negℤ}
 use lib.Signed.{quotZ, _≤ℤ_, _<ℤ_, ≤ℤ-refl, clashℤ}
 use Rattle.integers.specs.Signs.{natAbs-neg, natAbs-mul, *ℤ-cancel}
 use Rattle.integers.specs.Integers.{ring, *ℤ-pos-one, *ℤ-neg-l, *ℤ-mono, *ℤ-le-cancel, +ℤ-mono, ≤ℤ-trans, ≤ℤ-total, ≤ℤ-antisym, ≤ℤ-of-eq, ≤ℤ-of-<, ≤ℤ-neg, <ℤ-suc}
@@ -99,6 +99,12 @@ unfolding _≤Q_
 pub +Q-cong : (x y z : Quotient) → x ≈ y → (x +Q z) ≈ (y +Q z)
 +Q-cong x y z e =
     ≤Q-antisym (x +Q z) (y +Q z) (+Q-mono x y z (≤Q-of-≈ x y e)) (+Q-mono y x z (≤Q-of-≈ y x (≈-sym x y e)))
+
+pub +Q-comm : (x y : Quotient) → x +Q y ≡ y +Q x
++Q-comm x y = rw (+ℤ-comm (x .top *ℤ pos (y .bottom)) (y .top *ℤ pos (x .bottom)), mul-comm (x .bottom) (y .bottom))
+
+pub +Q-cong-right : (x y z : Quotient) → x ≈ y → (z +Q x) ≈ (z +Q y)
++Q-cong-right x y z e = rw (+Q-comm z x, +Q-comm z y) (+Q-cong x y z e)
 
 pub *Q-cong : (x y z : Quotient) → x ≈ y → (x *Q z) ≈ (y *Q z)
 unfolding _≈_

@@ -41,7 +41,7 @@ pub enum Rounding {
     NotAFraction,
 }
 
-// An exact result: a sign, true for negative, and a numerator and a denominator that may have common divisors.
+// An exact result: a sign, true for negative, and a numerator over a denominator, in lowest terms or not.
 pub struct Ratio {
     pub negative: bool,
     pub top: u64,

@@ -1,19 +1,14 @@
 -- From reading to verifying: what a taken text leaves in the tables, and what the answer says of what is spelled.
 -- Assumes nothing.
 use mathlib.Core.Path.{_≡_, refl, sym, _∙_, ap, subst}
-use mathlib.Core.Bool.{Bool, true, false, cond, _&&_}
 use mathlib.Core.List.{List}
 use mathlib.Core.Logic.{_↔_}
 use Prim.Native.Nat.{ℕ}
 use native.Mathlib.Omega.{arith}
-use borrow.Author.Tests.{leb-true, le-leb}
-use lib.Dec.{leb}
 use lib.IntN.{ℤ, pos}
 use lib.ListN.{length}
 use Rattle.text.specs.Bytes.{Bytes}
 use Rattle.tables.specs.declared.Header.{Header}
-use Rattle.tables.specs.Limits.{indexCells, valueCells, rowCells, hasCells, isShort}
-use Rattle.arithmetic.specs.Meaning.{and-true, true-and}
 use Rattle.grammar.specs.Tree.{Tree}
 use Rattle.grammar.specs.Header.{headerOf}
 use Rattle.grammar.specs.Tables.{indexTable, valueTable, rowTable}
@@ -24,6 +19,7 @@ use Rattle.rules.specs.Meets.{Meets}
 use Rattle.rules.specs.Agreement.{check-says}
 use Rattle.reader.specs.Promise as reading
 use Rattle.reader.specs.Promise.{Course, not-begun, begun, courseOf, tableOf, Begun, CertificateRead}
+use Rattle.reader.proofs.Courses.{begun-course, by-course}
 use Rattle.reader.specs.declared.Reading.{Reading}
 use Rattle.reader.specs.declared.Reading.the-variants as read
 use Rattle.encoding.specs.Held.{Held}
@@ -40,6 +36,9 @@ use Rattle.checker.specs.declared.Verification.the-variants.{Verified, R
 
 not-taken : {X : Type 0} {n l : ℕ} {h : Header} → reading.takes h ≡ reading.refuses n l → X
 not-taken e = absurd (let z : _≡_ {A = ℕ} 0 1 = cc in omega arith)
+
+not-begun-so : {X : Type 0} {n : ℕ} {read : ReadText} → not-begun n ≡ begun read → X
+not-begun-so e = absurd (let z : _≡_ {A = ℕ} 0 1 = cc in omega arith)
 
 -- a refusal of reading is the refusal of verifying
 pub refused-reading : (text : Bytes) (course : Course) {n l : ℕ} → reading.refuses n l ≡ reading.answerOf text course → refuses n l ≡ answerOf text course
@@ -59,30 +58,15 @@ taken-answer text (not-begun reason) header e = not-taken e
 taken-answer text (begun (taken tree)) header e = record { tree = tree; course-is = refl; header-is = cc }
 taken-answer text (begun (refused reason place)) header e = not-taken e
 
--- the course of a reading that was begun
-module _ (text : Bytes) (i v r : ℕ) where
-  course-begun : hasCells i v r ≡ true → isShort text ≡ true → courseOf text i v r ≡ begun (readOf text)
-  course-begun c s =
-      ap (λ (b : Bool). cond b (cond (isShort text) (begun (readOf text)) (not-begun 2)) (not-begun 1)) c
-      ∙ ap (λ (b : Bool). cond b (begun (readOf text)) (not-begun 2)) s
-
-  pub record BegunWith (read : ReadText) : Type 0 where
-    pub has-cells : hasCells i v r ≡ true
-    pub short : isShort text ≡ true
-    pub reads : readOf text ≡ read
-
-  begun-course : (read : ReadText) → courseOf text i v r ≡ begun read → BegunWith read
-  begun-course read e = go (hasCells i v r) (isShort text) refl refl e
-    where
-      go : (b c : Bool) → hasCells i v r ≡ b → isShort text ≡ c → cond b (cond c (begun (readOf text)) (not-begun 2)) (not-begun 1) ≡ begun read → BegunWith read
-      go true true p q f = record { has-cells = p; short = q; reads = cc }
-      go true false p q f = absurd (let z : _≡_ {A = ℕ} 0 1 = cc in omega arith)
-      go false c p q f = absurd (let z : _≡_ {A = ℕ} 0 1 = cc in omega arith)
-
 -- the tables of a text that was taken hold the tree that it spells
 module _ (text : Bytes) (index : List ℕ) (values : List ℤ) (rows : List ℕ) (index′ : List ℕ) (values′ : List ℤ) (rows′ : List ℕ) where
   abbrev course : Course
   course = courseOf text (length index) (length values) (length rows)
+
+  -- the course of a reading that was begun
+  was-begun : (read : ReadText) → course ≡ begun read → Begun text index values rows × (readOf text ≡ read)
+  was-begun read e =
+      by-course text index values rows (λ c. c ≡ begun read → Begun text index values rows × (readOf text ≡ read)) (λ q. not-begun-so q) (λ q. not-begun-so q) (λ b q. (b, cc)) e
 
   pub record TakenHeld (header : Header) : Type 0 where
     pub tree : Tree
@@ -96,9 +80,7 @@ module _ (text : Bytes) (index : List ℕ) (values : List ℤ) (rows : List ℕ)
       → TakenHeld header
   taken-held header e ei ev er li lv lr =
       let t = taken-answer text course header e in
-      let b = begun-course text (length index) (length values) (length rows) (taken (t .tree)) (t .course-is) in
-      let c = and-true (leb indexCells (length index)) (leb valueCells (length values) && leb rowCells (length rows)) (b .has-cells) in
-      let q = leb-true rowCells (length rows) (and-true (leb valueCells (length values)) (leb rowCells (length rows)) (c .1) .1) in
+      let b = was-begun (taken (t .tree)) (t .course-is) in
       record {
         tree = t .tree;
         course-is = t .course-is;
@@ -106,11 +88,11 @@ module _ (text : Bytes) (index : List ℕ) (values : List ℤ) (rows : List ℕ)
         held =
             record {
               text = text;
-              spelled = read-sound text (t .tree) (b .reads);
+              spelled = read-sound text (t .tree) (b .1);
               index-is = ei ∙ ap (tableOf 0 indexTable index) (t .course-is) ∙ ap (λ (n : ℕ). indexTable n (t .tree)) (sym li);
               values-is = ev ∙ ap (tableOf (pos 0) valueTable values) (t .course-is) ∙ ap (λ (n : ℕ). valueTable n (t .tree)) (sym lv);
               rows-is = er ∙ ap (tableOf 0 rowTable rows) (t .course-is) ∙ ap (λ (n : ℕ). rowTable n (t .tree)) (sym lr);
-              row-cells = omega (arith, lr);
+              row-cells = omega (arith, lr, b .0 .row-cells);
             };
       }
 
@@ -120,24 +102,28 @@ answered : (r : Verification) → verificationSays r ≡ verifies → r ≡ Veri
 answered Verified e = refl
 answered (Refused reason line) e = not-verified e
 
-pub exactly : (text : Bytes) (index : List ℕ) (values : List ℤ) (rows : List ℕ) (r : Verification)
-    → verificationSays r ≡ answerOf text (courseOf text (length index) (length values) (length rows))
-    → Begun text index values rows → (r ≡ Verified) ↔ ((tree : Tree) × SpellsTree text tree × Meets tree)
-exactly text index values rows r e b = (λ v. to (sym answer ∙ ap verificationSays v), λ h. answered r (answer ∙ from (h .0) (h .1) (h .2)))
-  where
-    answer : verificationSays r ≡ answerOf text (begun (readOf text))
-    answer =
-        e ∙ ap (answerOf text)
-        (course-begun text (length index) (length values) (length rows)
-        (true-and (leb indexCells (length index)) (leb valueCells (length values) && leb rowCells (length rows)) (le-leb _ _ (b .index-cells))
-        (true-and (leb valueCells (length values)) (leb rowCells (length rows)) (le-leb _ _ (b .value-cells)) (le-leb _ _ (b .row-cells))))
-        (le-leb _ _ (b .short)))
+module _ (text : Bytes) (index : List ℕ) (values : List ℤ) (rows : List ℕ) (r : Verification)
+    (e : verificationSays r ≡ answerOf text (courseOf text (length index) (length values) (length rows))) where
+  -- a text that is verified was begun to be read
+  verified-begun : r ≡ Verified → Begun text index values rows
+  verified-begun v =
+      by-course text index values rows (λ c. verifies ≡ answerOf text c → Begun text index values rows)
+      (λ q. not-verified (sym q)) (λ q. not-verified (sym q)) (λ b q. b) (sym (ap verificationSays v) ∙ e)
 
-    to : answerOf text (begun (readOf text)) ≡ verifies → (tree : Tree) × SpellsTree text tree × Meets tree
-    to v = let p = passes text (readOf text) refl v in (p .tree, read-sound text (p .tree) (p .reads), check-says (p .tree) .0 (p .checked))
+  answered-begun : Begun text index values rows → verificationSays r ≡ answerOf text (begun (readOf text))
+  answered-begun b = e ∙ ap (answerOf text) (begun-course text index values rows b)
 
-    from : (tree : Tree) → SpellsTree text tree → Meets tree → answerOf text (begun (readOf text)) ≡ verifies
-    from tree s m = ap (λ (x : ReadText). answerOf text (begun x)) (read-complete text tree s) ∙ ap (checkedSays text) (check-says tree .1 m)
+  meets : answerOf text (begun (readOf text)) ≡ verifies → (tree : Tree) × SpellsTree text tree × Meets tree
+  meets v = let p = passes text (readOf text) refl v in (p .tree, read-sound text (p .tree) (p .reads), check-says (p .tree) .0 (p .checked))
+
+  verifies-it : (tree : Tree) → SpellsTree text tree → Meets tree → answerOf text (begun (readOf text)) ≡ verifies
+  verifies-it tree s m = ap (λ (x : ReadText). answerOf text (begun x)) (read-complete text tree s) ∙ ap (checkedSays text) (check-says tree .1 m)
+
+  pub exactly : (r ≡ Verified) ↔ (Begun text index values rows × ((tree : Tree) × SpellsTree text tree × Meets tree))
+  exactly = (
+    λ v. let b = verified-begun v in (b, meets (sym (answered-begun b) ∙ ap verificationSays v)),
+    λ h. answered r (answered-begun (h .0) ∙ verifies-it (h .1 .0) (h .1 .1) (h .1 .2)),
+  )
 
 -- ---- the promise, from reading's
 
@@ -146,12 +132,9 @@ module _ {text : Bytes} {index : List ℕ} {values : List ℤ} {rows : List ℕ}
   -- the answer is the one of 01; reading left the tables
   promised : (a : Verification) → verificationSays a ≡ answerOf text (courseOf text (length index) (length values) (length rows)) → CertificateVerified text index values rows index′ values′ rows′ a
   promised a answer =
-      let q = h .equations in
       record {
         answer = answer;
-        index-table = q .index-table;
-        value-table = q .value-table;
-        row-table = q .row-table;
+        tables = h .tables;
         verified-exactly = exactly text index values rows a answer;
         verified-means = λ v. verified-means text (length index) (length values) (length rows) (sym answer ∙ ap verificationSays v);
       }
@@ -159,13 +142,13 @@ module _ {text : Bytes} {index : List ℕ} {values : List ℤ} {rows : List ℕ}
   -- reading refused
   pub refused-verified : (reason : Refusal) (line : ℕ) → r ≡ read.Refused reason line → CertificateVerified text index values rows index′ values′ rows′ (Refused reason line)
   refused-verified reason line e =
-      promised (Refused reason line) (refused-reading text (courseOf text (length index) (length values) (length rows)) (sym (ap reading.readingSays e) ∙ h .equations .answer))
+      promised (Refused reason line) (refused-reading text (courseOf text (length index) (length values) (length rows)) (sym (ap reading.readingSays e) ∙ h .answer))
 
   module _ (li : length index′ ≡ length index) (lv : length values′ ≡ length values) (lr : length rows′ ≡ length rows) (header : Header) (e : r ≡ read.Taken header) where
     the-tree : TakenHeld text index values rows index′ values′ rows′ header
     the-tree =
-        let q = h .equations in
-        taken-held text index values rows index′ values′ rows′ header (sym (ap reading.readingSays e) ∙ q .answer) (q .index-table) (q .value-table) (q .row-table) li lv lr
+        let q = h .tables in
+        taken-held text index values rows index′ values′ rows′ header (sym (ap reading.readingSays e) ∙ h .answer) (q .index-table) (q .value-table) (q .row-table) li lv lr
 
     -- the tables encode what was read, under its header, and it was checked
     pub checked-verified : {v w : Verdict} (a : Verification) → ((tree : Tree) → Encodes tree header index′ values′ rows′ → verdictSays v ≡ checkOf tree)

@@ -5,19 +5,18 @@ use mathlib.Core.Path.{_≡_}
 use mathlib.Core.List.{List}
 use mathlib.Core.Logic.{_↔_}
 use Prim.Native.Nat.{ℕ}
-use lib.IntN.{ℤ, pos}
+use lib.IntN.{ℤ}
 use lib.ListN.{length}
 use Rattle.text.specs.Bytes.{Bytes}
 use Rattle.text.specs.Lines.{lineOf}
 use Rattle.grammar.specs.Tree.{Tree}
-use Rattle.grammar.specs.Tables.{indexTable, valueTable, rowTable}
 use Rattle.grammar.specs.Texts.{SpellsTree, taken, refused}
 use Rattle.grammar.specs.Refusals.{refusalNumber}
 use Rattle.rules.specs.Result as rules
 use Rattle.rules.specs.Check.{checkOf}
 use Rattle.rules.specs.Meets.{Meets}
 use Rattle.rules.specs.Sentence.Points.{SentenceOf}
-use Rattle.reader.specs.Promise.{Course, not-begun, begun, courseOf, tableOf, Begun}
+use Rattle.reader.specs.Promise.{Course, not-begun, begun, courseOf, TablesLeft, Begun}
 use Rattle.checker.specs.declared.Verification.{Verification}
 use Rattle.checker.specs.declared.Verification.the-variants.{Verified, Refused}
 
@@ -50,11 +49,10 @@ answerOf text (begun (taken tree)) = checkedSays text (checkOf tree)
 -- 3 to 8, as read after 9 to 18 and where it is verified
 pub record CertificateVerified (text : Bytes) (index : List ℕ) (values : List ℤ) (rows : List ℕ) (index′ : List ℕ) (values′ : List ℤ) (rows′ : List ℕ) (r : Verification) : Type 0 where
   pub answer : verificationSays r ≡ answerOf text (courseOf text (length index) (length values) (length rows))
-  pub index-table : index′ ≡ tableOf 0 indexTable index (courseOf text (length index) (length values) (length rows))
-  pub value-table : values′ ≡ tableOf (pos 0) valueTable values (courseOf text (length index) (length values) (length rows))
-  pub row-table : rows′ ≡ tableOf 0 rowTable rows (courseOf text (length index) (length values) (length rows))
-  -- "It says verified exactly when the certificate meets the rules"
-  pub verified-exactly : Begun text index values rows → (r ≡ Verified) ↔ ((tree : Tree) × SpellsTree text tree × Meets tree)
+  pub tables : TablesLeft text index values rows index′ values′ rows′
+  -- "It says verified exactly when the certificate meets the rules": the tables have the cells needed, the text has at most
+  -- 32,768 bytes and spells a certificate, and this meets the rules
+  pub verified-exactly : (r ≡ Verified) ↔ (Begun text index values rows × ((tree : Tree) × SpellsTree text tree × Meets tree))
   -- the sentence about points (document 02, request 11), of this very text: its solutions are feasible, and "no feasible point
   -- lies beyond a verified bound"
   pub verified-means : r ≡ Verified → SentenceOf text

@@ -1,24 +1,23 @@
 -- The mask of one derivation more: if the masks of the rows before it have exactly the bits of their assumptions, so has its own.
 -- Assumes nothing.
-use mathlib.Core.Path.{_≡_, refl, sym, _∙_, ap, subst}
+use mathlib.Core.Path.{_≡_, refl, sym, _∙_, ap, ap₂, subst}
 use mathlib.Core.Bool.{Bool, true, false, cond, _&&_}
 use mathlib.Core.List.{List, [], _∷_, map}
 use mathlib.Core.Logic.{_⊎_, inl, inr, ⊎-elim}
 use Prim.Native.Nat.{ℕ, _+_, _-_, _≤_, _<_, max, min}
 use native.Mathlib.Omega.{arith}
-use borrow.Author.Tests.{eqb-true, eqb-false, eq-eqb, lt-ltb, le-ltb}
+use borrow.Author.Tests.{eqb-true, eqb-false, eq-eqb, lt-ltb, le-ltb, ltb-true, ltb-false}
 use lib.Dec.{eqb, ltb}
 use lib.IntN.{ℤ}
-use lib.ListN.{length, getD, set, take, replicate, length-set, length-replicate, getD-replicate}
+use lib.ListN.{length, getD, set, take, replicate, length-set, length-replicate, length-append, length-map, getD-replicate}
 use lib.Seq.{getD-set-same, getD-set-other}
 use Rattle.tables.specs.Limits.{mostRows, mostAssumptions}
 use Rattle.tables.specs.declared.Header.{Header}
-use Rattle.grammar.specs.Tree.{Multiplier, Reason, asm, lin, rnd, uns, sol, Derivation, Tree}
+use Rattle.grammar.specs.Tree.{Multiplier, Reason, asm, lin, rnd, uns, sol, Row, Derivation, Tree}
 use Rattle.grammar.specs.Certificate.{assumptions}
-use Rattle.grammar.specs.Ranges.{TreeInRange}
 use Rattle.rules.specs.Tests.{All, In, Decides, fails, failed, decides-as}
-use Rattle.rules.specs.Rows.{Entry, givenRow, derivedRow, entryAt}
-use Rattle.rules.specs.RowsLaws.{entry-given}
+use Rattle.rules.specs.Rows.{Entry, givenRow, derivedRow, entries, entryAt}
+use Rattle.rules.specs.RowsLaws.{entry-given, entry-beyond}
 use Rattle.rules.specs.Assumptions.{IsAssumption, assumed, HasReason, Assumes, itself, by-lin, by-rnd, by-first, by-second, NoAssumptions, assumptionsOf, isEmpty}
 use Rattle.rules.specs.AssumptionsLaws.{decides-assumed, only-assumptions, decides-no-assumptions}
 use Rattle.rules.specs.Derivations.{named}
@@ -119,6 +118,10 @@ pub mask-in : (masks : List ℕ) (r : ℕ) → r < mostRows → maskAt masks r �
 unfolding maskAt
 mask-in masks r lt = ap (λ (b : Bool). cond b (getD masks r 0) 0) (lt-ltb r mostRows lt)
 
+mask-same : (masks more : List ℕ) (r : ℕ) → getD masks r 0 ≡ getD more r 0 → maskAt masks r ≡ maskAt more r
+unfolding maskAt
+mask-same masks more r e = ap (λ (m : ℕ). cond (ltb r mostRows) m 0) e
+
 pub mask-beyond : (masks : List ℕ) (r : ℕ) → mostRows ≤ r → maskAt masks r ≡ 0
 unfolding maskAt
 mask-beyond masks r le = ap (λ (b : Bool). cond b (getD masks r 0) 0) (le-ltb r mostRows le)
@@ -129,11 +132,13 @@ named-in : (own : ℕ) (ms : List Multiplier) (m : Multiplier) → All (λ i. i 
 named-in own [] m h i = absurd i
 named-in own (x ∷ ms) m h i = ⊎-elim (λ e. subst (λ (y : Multiplier). y .row < own) e (h .0)) (λ k. named-in own ms m (h .1) k) i
 
--- before row `own`: the number of asm rows so far, and the masks, which have exactly the bits of the assumptions of the rows so far
+-- before row `own`: the number of asm rows so far, and the masks, which have exactly the bits of the assumptions of the rows so far,
+-- and no bit from there on
 pub record Stand (tree : Tree) (own n : ℕ) (masks : List ℕ) : Type 0 where
   pub counted : number tree own ≡ n
   pub whole : length masks ≡ mostRows
   pub shown : (i : ℕ) → i < own → Represents tree (maskAt masks i) i
+  pub empty : (i : ℕ) → own ≤ i → maskAt masks i ≡ 0
 
 module _ {tree : Tree} {own n : ℕ} {masks : List ℕ} (now : Stand tree own n masks) where
   -- "A(i1) without l1"
@@ -221,26 +226,42 @@ module _ {tree : Tree} {own n : ℕ} {masks : List ℕ} (now : Stand tree own n 
 
 -- ---- before the first derivation, after one more, and at the end
 
+entries-are : (tree : Tree) → length (entries tree) ≡ length (tree .constraints .rows) + length (tree .derivations .derivations)
+unfolding entries
+entries-are tree =
+    length-append (map givenRow (tree .constraints .rows)) (map derivedRow (tree .derivations .derivations))
+    ∙ ap₂ _+_ (length-map (tree .constraints .rows) givenRow) (length-map (tree .derivations .derivations) derivedRow)
+
+-- a row of no derivation has no assumptions
+none-represented : (tree : Tree) (r : ℕ) {row : Row} → entryAt tree r ≡ givenRow row → {mask : ℕ} → mask ≡ 0 → Represents tree mask r
+none-represented tree r is z =
+    record {
+      listed = λ a s. absurd (subst (ByEntry tree a r) is (by-entry tree a s));
+      marked = λ j e. absurd (omega (arith, e, ap (λ (m : ℕ). bit m j) z, bit-zero j));
+    }
+
 -- "all empty at the start"
-pub stand-start : (tree : Tree) → TreeInRange tree → Stand tree (length (tree .constraints .rows)) 0 (replicate mostRows 0)
-stand-start tree t =
+all-empty : (i : ℕ) → maskAt (replicate mostRows 0) i ≡ 0
+all-empty i = go (ltb i mostRows) refl
+  where
+    go : (t : Bool) → ltb i mostRows ≡ t → maskAt (replicate mostRows 0) i ≡ 0
+    go true e = let lt = ltb-true i mostRows e in mask-in (replicate mostRows 0) i lt ∙ getD-replicate {A = ℕ} mostRows i 0 0 lt
+    go false e = mask-beyond (replicate mostRows 0) i (ltb-false i mostRows e)
+
+pub stand-start : (tree : Tree) → Stand tree (length (tree .constraints .rows)) 0 (replicate mostRows 0)
+stand-start tree =
     let given = length (tree .constraints .rows) in
     let none : given - given ≡ 0 = omega arith in
     record {
       counted = ap (λ (k : ℕ). assumptions (take k (tree .derivations .derivations))) none;
       whole = length-replicate {A = ℕ} mostRows 0;
-      shown = λ i h.
-          let lt : i < mostRows = omega (arith, t .rows-most, t .rows-counted) in
-          rw (mask-in (replicate mostRows 0) i lt, getD-replicate {A = ℕ} mostRows i 0 0 lt)
-          (record {
-            listed = λ a s. absurd (subst (ByEntry tree a i) (entry-given tree i h) (by-entry tree a s));
-            marked = λ j e. absurd (omega (arith, e, bit-zero j));
-          });
+      shown = λ i h. none-represented tree i (entry-given tree i h) (all-empty i);
+      empty = λ i h. all-empty i;
     }
 
 module _ {tree : Tree} {h : Header} {index : List ℕ} {values : List ℤ} {rows : List ℕ} (e : Encodes tree h index values rows) where
   pub sets-start : Stand tree (h .given) 0 (replicate mostRows 0)
-  sets-start = subst (λ (k : ℕ). Stand tree k 0 (replicate mostRows 0)) (sym (given-are e)) (stand-start tree (e .in-range))
+  sets-start = subst (λ (k : ℕ). Stand tree k 0 (replicate mostRows 0)) (sym (given-are e)) (stand-start tree)
 
   rows-most : h .rows ≤ mostRows
   rows-most = omega (arith, ap (λ (x : Header). x .rows) (e .header-is), e .in-range .derivations-most)
@@ -254,6 +275,7 @@ module _ {tree : Tree} {h : Header} {index : List ℕ} {values : List ℤ} {rows
         counted = number-next tree own (omega (arith, given-are e)) ∙ ap (λ (k : ℕ). cond (assumed (entryAt tree own)) (k + 1) k) (now .counted) ∙ sym count;
         whole = length-set masks own r ∙ now .whole;
         shown = λ i l. go i l (eqb i own) refl;
+        empty = λ i l. other i (λ q. omega (arith, q)) ∙ now .empty i (omega arith);
       }
     where
       row : DerivedRow tree index values rows own
@@ -265,15 +287,22 @@ module _ {tree : Tree} {h : Header} {index : List ℕ} {values : List ℤ} {rows
       new : Represents tree r own
       new = represents-next now few (row .derivation) (row .entry-is) (row .encodes .named-below) r (bits (row .derivation) (row .encodes))
 
+      other : (i : ℕ) → (i ≡ own → ⊥) → maskAt (set masks own r) i ≡ maskAt masks i
+      other i ne = mask-same (set masks own r) masks i (getD-set-other masks own i r 0 ne)
+
       go : (i : ℕ) → i < own + 1 → (t : Bool) → eqb i own ≡ t → Represents tree (maskAt (set masks own r) i) i
       go i l true q = rw (eqb-true i own q, mask-in (set masks own r) own (omega (arith, rows-most)), getD-set-same masks own r 0 (omega (arith, rows-most, now .whole))) new
-      go i l false q =
-          let ne = eqb-false i own q in
-          let here : maskAt masks i ≡ getD masks i 0 = mask-in masks i (omega (arith, ne, rows-most)) in
-          rw (mask-in (set masks own r) i (omega (arith, ne, rows-most)), getD-set-other masks own i r 0 ne, sym here) (now .shown i (omega (arith, ne)))
+      go i l false q = let ne = eqb-false i own q in rw (other i ne) (now .shown i (omega (arith, ne)))
 
-  pub sets-end : {own n : ℕ} {masks : List ℕ} → Stand tree own n masks → min (h .rows) mostRows ≤ own → (r : ℕ) → r < h .rows → Represents tree (maskAt masks r) r
-  sets-end now le r lt = now .shown r (omega (arith, rows-most))
+  -- of every row, and of none
+  pub sets-end : {own n : ℕ} {masks : List ℕ} → Stand tree own n masks → min (h .rows) mostRows ≤ own → (r : ℕ) → Represents tree (maskAt masks r) r
+  sets-end {own} {masks = masks} now le r = go (ltb r own) refl
+    where
+      go : (t : Bool) → ltb r own ≡ t → Represents tree (maskAt masks r) r
+      go true q = now .shown r (ltb-true r own q)
+      go false q =
+          let past = ltb-false r own q in
+          none-represented tree r (entry-beyond tree r (omega (arith, past, rows-most, rows-are e, given-are e, entries-are tree))) (now .empty r past)
 
 -- "with no assumptions"
 pub free-by : {tree : Tree} {mask : ℕ} (r : ℕ) → Represents tree mask r → {s : ℕ} → s ≡ mask → (b : Bool) → Decides b ((j : ℕ) → bit s j ≡ 0) → b ≡ isEmpty (assumptionsOf tree r)

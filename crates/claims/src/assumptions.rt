@@ -102,9 +102,10 @@ fn set_of(
     }
 }
 
-// "1,024 assumption sets, all empty at the start": the set of each row, derivation after derivation.
+// "1,024 assumption sets, all empty at the start": the set of each row, derivation after derivation. It is empty where there is no
+// row.
 fn sets_of(index: &[u16], rows: &[u16], header: Header) -> [u64; 1024]
-    ensures { λ s. ⌜ ((tree : Tree) (values : List ℤ) → Encodes tree header (now (index .entry)) values (now (rows .entry)) → (r : ℕ) → r < header .rows → Represents tree (maskAt s r) r) ⌝ }
+    ensures { λ s. ⌜ ((tree : Tree) (values : List ℤ) → Encodes tree header (now (index .entry)) values (now (rows .entry)) → (r : ℕ) → Represents tree (maskAt s r) r) ⌝ }
 {
     let end = in_array(header.rows);
     let mut all = [0u64; 1024];
@@ -123,7 +124,7 @@ fn sets_of(index: &[u16], rows: &[u16], header: Header) -> [u64; 1024]
 
 // Whether row r has no assumptions.
 pub(crate) fn is_free(index: &[u16], rows: &[u16], header: Header, r: usize) -> bool
-    ensures { λ b. ⌜ ((tree : Tree) (values : List ℤ) → Encodes tree header (now (index .entry)) values (now (rows .entry)) → r < header .rows → b ≡ isEmpty (assumptionsOf tree r)) ⌝ }
+    ensures { λ b. ⌜ ((tree : Tree) (values : List ℤ) → Encodes tree header (now (index .entry)) values (now (rows .entry)) → b ≡ isEmpty (assumptionsOf tree r)) ⌝ }
 {
     let all = sets_of(index, rows, header);
     sets::is_empty(set_at(&all, r))

@@ -21,7 +21,7 @@ use Rattle.grammar.specs.Layout.{Mark, cells, values}
 use Rattle.grammar.specs.Contents.{termCells, termValues, rowIndexCells, rowValues, reasonCells, reasonValues, lastCell, derivationCells, derivationValues, endCell, endValues, claimCells, claimValues}
 use Rattle.grammar.specs.Fits.{values-are}
 use Rattle.grammar.specs.Header.{headerOf}
-use Rattle.grammar.specs.Names.{Each}
+use Rattle.grammar.specs.Lists.{Each}
 use Rattle.grammar.specs.Positions.{StandsAt, stands-get, stands-part, stands-rest, stands-here, stands-next, stands-one}
 use Rattle.grammar.specs.Ranges.{SideInRange, DerivationInRange, TreeInRange, tree-in-range}
 use Rattle.grammar.specs.Rows.{Kept, RowAt, given-kept, derived-kept, solution-kept, row-found, sections-stand, objectiveAt, claimAt, claimValuesAt}

@@ -20,7 +20,7 @@ use Rattle.tables.specs.declared.Pairs.{Pairs}
 use Rattle.grammar.specs.Tree.{Term, TermList, Multiplier, Side, obj, listed, Tree}
 use Rattle.grammar.specs.Contents.{sideCells, sideValues}
 use Rattle.grammar.specs.Fits.{by-turns-length}
-use Rattle.grammar.specs.Names.{Each}
+use Rattle.grammar.specs.Lists.{Each}
 use Rattle.grammar.specs.Positions.{StandsAt, stands-slice, stands-inside, stands-here, stands-next}
 use Rattle.grammar.specs.Ranges.{TermsInRange, SideInRange}
 use Rattle.grammar.specs.Tables.{byTurns}

@@ -15,7 +15,7 @@ use Rattle.tables.specs.Cells.{part}
 use Rattle.grammar.specs.Tree.{Multiplier, MultiplierList, Reason, asm, lin, rnd, uns, sol}
 use Rattle.grammar.specs.Certificate.{reasonCell, ofReason}
 use Rattle.grammar.specs.Contents.{multiplierCells, multiplierValues, reasonCells, reasonValues}
-use Rattle.grammar.specs.Names.{Each}
+use Rattle.grammar.specs.Lists.{Each}
 use Rattle.grammar.specs.Positions.{StandsAt, stands-part, stands-here, stands-next}
 use Rattle.grammar.specs.Ranges.{InRange, ReasonInRange}
 use Rattle.rules.specs.Tests.{All}

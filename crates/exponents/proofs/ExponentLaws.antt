@@ -3,13 +3,13 @@
 use mathlib.Core.Path.{_≡_, refl, sym, _∙_, ap, subst}
 use mathlib.Core.Bool.{Bool, true, false, cond}
 use mathlib.Core.List.{[], _∷_}
-use mathlib.Core.Logic.{_⊎_, inl, inr, ⊎-elim}
+use mathlib.Core.Logic.{_⊎_, inl, inr}
 use mathlib.Core.Option.{none, some}
 use Prim.Native.Nat.{ℕ, _+_, _-_, _*_, _≤_, _<_}
 use native.Mathlib.Omega.{arith}
-use borrow.Author.Tests.{ne-eqb}
-use lib.Dec.{eqb}
-use lib.IntN.{ℤ, pos, negℤ, natAbs, _+ℤ_, _-ℤ_, +ℤ-comm, +ℤ-idr, +ℤ-invr, +ℤ-negℤ-cancel, negℤ-negℤ, negℤ-+ℤ}
+use borrow.Author.Tests.{ltb-true, ltb-false, lt-ltb, le-ltb, ne-eqb}
+use lib.Dec.{ltb, eqb}
+use lib.IntN.{ℤ, pos, negℤ, natAbs, _+ℤ_, _-ℤ_, +ℤ-comm, +ℤ-idr, +ℤ-invr, +ℤ-negℤ-cancel, negℤ-+ℤ}
 use lib.ListN.{length, getD, drop, drop-of-length-le}
 use Rattle.integers.specs.Integers.{ring, cancel, +ℤ-swap}
 use Rattle.integers.specs.Signs.{withSign, natAbs-neg, natAbs-withSign}
@@ -18,7 +18,7 @@ use Rattle.text.specs.BytesLaws.{uncons}
 use Rattle.numerals.specs.Spelling.{Sign, unsigned, plus, minus, isMinus, mostPower}
 use Rattle.numerals.specs.Reading.{afterLetter, exponentFrom}
 use Rattle.numerals.proofs.Forms.{by-test}
-use Rattle.exponents.specs.Exponents.{room, isLetter, large, Saturated, NumberRead, ExponentRead, PowerIs}
+use Rattle.exponents.specs.Exponents.{room, isLetter, large, Saturated, NumberRead, ExponentRead, powerSays, powerWithin, opposed}
 use Rattle.exponents.specs.declared.Exponent.{Exponent}
 use Rattle.exponents.specs.declared.Exponent.the-variants as exponent
 use Rattle.exponents.specs.declared.Power.{Power}
@@ -117,14 +117,34 @@ module _ (token : Bytes) (from : ℕ) (h : from < length token) where
 
 -- ---- powers
 
-pub opposite-up : (z : ℤ) (k : ℕ) → PowerIs z (power.Up k) → PowerIs (negℤ z) (power.Down k)
-opposite-up z k h = (h .0, ap negℤ (h .1))
+pub power-inside : (z : ℤ) → natAbs z ≤ mostPower → some z ≡ powerWithin z
+power-inside z h = rw (le-ltb mostPower (natAbs z) h)
 
-pub opposite-down : (z : ℤ) (k : ℕ) → PowerIs z (power.Down k) → PowerIs (negℤ z) (power.Up k)
-opposite-down z k h = (h .0, ap negℤ (h .1) ∙ negℤ-negℤ (pos k))
+pub power-outside : (z : ℤ) → mostPower < natAbs z → none ≡ powerWithin z
+power-outside z h = rw (lt-ltb mostPower (natAbs z) h)
 
-pub opposite-outside : (z : ℤ) → PowerIs z power.Outside → PowerIs (negℤ z) power.Outside
-opposite-outside z h = rw natAbs-neg h
+pub opposed-within : (z : ℤ) → opposed (powerWithin z) ≡ powerWithin (negℤ z)
+opposed-within z = rw (natAbs-neg z) (by-test (ltb mostPower (natAbs z)) (λ e. rw e) (λ e. rw e))
+
+-- what an equation of powers says of each case
+abbrev pub PowerIs : ℤ → Power → Type 0
+PowerIs z (power.Up k) = (k ≤ mostPower) × (z ≡ pos k)
+PowerIs z (power.Down k) = (k ≤ mostPower) × (z ≡ negℤ (pos k))
+PowerIs z power.Outside = mostPower < natAbs z
+
+pub power-is : (z : ℤ) (x : Power) → powerSays x ≡ powerWithin z → PowerIs z x
+power-is z x e =
+    by-test (ltb mostPower (natAbs z)) (λ t. beyond x (e ∙ (rw t)) (ltb-true _ _ t)) (λ t. inside x (e ∙ (rw t)) (ltb-false _ _ t))
+  where
+    beyond : (x : Power) → powerSays x ≡ none → mostPower < natAbs z → PowerIs z x
+    beyond (power.Up k) e h = absurd (let q : _≡_ {A = ℕ} 0 1 = cc in omega arith)
+    beyond (power.Down k) e h = absurd (let q : _≡_ {A = ℕ} 0 1 = cc in omega arith)
+    beyond power.Outside e h = h
+
+    inside : (x : Power) → powerSays x ≡ some z → natAbs z ≤ mostPower → PowerIs z x
+    inside (power.Up k) e h = let same : pos k ≡ z = cc in (omega (arith, ap natAbs same), sym same)
+    inside (power.Down k) e h = let same : negℤ (pos k) ≡ z = cc in (omega (arith, ap natAbs same, natAbs-withSign true k), sym same)
+    inside power.Outside e h = absurd (let q : _≡_ {A = ℕ} 0 1 = cc in omega arith)
 
 -- a difference, by the greater of the two
 up-by : (up down : ℕ) → down ≤ up → pos up -ℤ pos down ≡ pos (up - down)
@@ -144,58 +164,38 @@ down-by up down h =
     gone a b = simp (ring, cancel)
 
 module _ (up down : ℕ) where
-  pub difference-up : down ≤ up → up - down ≤ mostPower → PowerIs (pos up -ℤ pos down) (power.Up (up - down))
-  difference-up h k = (k, up-by up down h)
+  pub difference-up : down ≤ up → up - down ≤ mostPower → some (pos (up - down)) ≡ powerWithin (pos up -ℤ pos down)
+  difference-up h k = rw (up-by up down h) (power-inside (pos (up - down)) k)
 
-  pub difference-down : up ≤ down → down - up ≤ mostPower → PowerIs (pos up -ℤ pos down) (power.Down (down - up))
-  difference-down h k = (k, down-by up down h)
+  pub difference-down : up ≤ down → down - up ≤ mostPower → some (negℤ (pos (down - up))) ≡ powerWithin (pos up -ℤ pos down)
+  difference-down h k = rw (down-by up down h) (power-inside (negℤ (pos (down - up))) (rw (natAbs-withSign true (down - up)) k))
 
-  pub difference-high : down ≤ up → mostPower < up - down → PowerIs (pos up -ℤ pos down) power.Outside
-  difference-high h k = rw (up-by up down h) k
+  pub difference-high : down ≤ up → mostPower < up - down → none ≡ powerWithin (pos up -ℤ pos down)
+  difference-high h k = rw (up-by up down h) (power-outside (pos (up - down)) k)
 
-  pub difference-low : up ≤ down → mostPower < down - up → PowerIs (pos up -ℤ pos down) power.Outside
-  difference-low h k = rw (down-by up down h) (rw (natAbs-withSign true (down - up)) k)
+  pub difference-low : up ≤ down → mostPower < down - up → none ≡ powerWithin (pos up -ℤ pos down)
+  difference-low h k = rw (down-by up down h) (power-outside (negℤ (pos (down - up))) (rw (natAbs-withSign true (down - up)) k))
 
--- a difference that is outside is answered so
-outside-only : (z : ℤ) (r : Power) → mostPower < natAbs z → PowerIs z r → r ≡ power.Outside
-outside-only z (power.Up k) h p = absurd (omega (arith, p .0, ap natAbs (p .1)))
-outside-only z (power.Down k) h p = absurd (omega (arith, p .0, ap natAbs (p .1) ∙ natAbs-withSign true k))
-outside-only z power.Outside h p = refl
-
-module _ (number more less n : ℕ) (s : Saturated n number) where
+module _ (number more less : ℕ) where
   -- more is taken away than is added
-  pub balance-less : more < less → less ≤ room → (r : Power) → PowerIs (pos number -ℤ pos (less - more)) r → PowerIs (pos (n + more) -ℤ pos less) r
-  balance-less h k r p = ⊎-elim exact far s
+  pub balance-less : more < less → pos number -ℤ pos (less - more) ≡ pos (number + more) -ℤ pos less
+  balance-less h =
+      let sum : less - more + more ≡ less = omega arith in
+      shift (pos number) (pos (less - more)) (pos more) ∙ ap (λ (m : ℕ). pos (number + more) -ℤ pos m) sum
     where
       shift : (a b c : ℤ) → a -ℤ b ≡ (a +ℤ c) -ℤ (b +ℤ c)
       shift a b c =
           sym (ap (λ (z : ℤ). (a +ℤ c) +ℤ z) (negℤ-+ℤ b c) ∙ +ℤ-swap a c (negℤ b) (negℤ c) ∙ ap (λ (z : ℤ). (a -ℤ b) +ℤ z) (+ℤ-invr c) ∙ +ℤ-idr (a -ℤ b))
 
-      exact : number ≡ n → PowerIs (pos (n + more) -ℤ pos less) r
-      exact e =
-          let sum : (less - more) + more ≡ less = omega arith in
-          let same : pos number -ℤ pos (less - more) ≡ pos (n + more) -ℤ pos less =
-          ap (λ (m : ℕ). pos m -ℤ pos (less - more)) e ∙ shift (pos n) (pos (less - more)) (pos more) ∙ ap (λ (m : ℕ). pos (n + more) -ℤ pos m) sum in
-          subst (λ (z : ℤ). PowerIs z r) same p
-
-      far : (large * 10 ≤ number) × (large * 10 ≤ n) → PowerIs (pos (n + more) -ℤ pos less) r
-      far f =
-          let out : r ≡ power.Outside = outside-only (pos number -ℤ pos (less - more)) r (difference-high number (less - more) (omega (arith, f .0)) (omega (arith, f .0))) p in
-          subst (PowerIs (pos (n + more) -ℤ pos less)) (sym out) (difference-high (n + more) less (omega (arith, f .1)) (omega (arith, f .1)))
-
   -- as much is added, or more
-  pub balance-high : less ≤ more → mostPower < number → PowerIs (pos (n + more) -ℤ pos less) power.Outside
-  balance-high h k = difference-high (n + more) less (omega arith) (⊎-elim (λ e. omega arith) (λ f. omega (arith, f .1)) s)
+  pub balance-high : less ≤ more → mostPower < number → none ≡ powerWithin (pos (number + more) -ℤ pos less)
+  balance-high h k = difference-high (number + more) less (omega arith) (omega arith)
 
-  pub balance-far : less ≤ more → mostPower < more - less → PowerIs (pos (n + more) -ℤ pos less) power.Outside
-  balance-far h k = difference-high (n + more) less (omega arith) (omega arith)
+  pub balance-far : less ≤ more → mostPower < more - less → none ≡ powerWithin (pos (number + more) -ℤ pos less)
+  balance-far h k = difference-high (number + more) less (omega arith) (omega arith)
 
-  pub balance-more : less ≤ more → number ≤ mostPower → (r : Power) → PowerIs (pos (number + (more - less)) -ℤ pos 0) r → PowerIs (pos (n + more) -ℤ pos less) r
-  balance-more h k r p =
-      let e : number ≡ n = ⊎-elim (λ e. e) (λ f. absurd (omega (arith, f .0))) s in
-      let same : pos (number + (more - less)) -ℤ pos 0 ≡ pos (n + more) -ℤ pos less =
-      up-by (number + (more - less)) 0 (omega arith) ∙ ap pos (omega arith) ∙ sym (up-by (n + more) less (omega arith)) in
-      subst (λ (z : ℤ). PowerIs z r) same p
+  pub balance-more : less ≤ more → pos (number + (more - less)) -ℤ pos 0 ≡ pos (number + more) -ℤ pos less
+  balance-more h = up-by (number + (more - less)) 0 (omega arith) ∙ ap pos (omega arith) ∙ sym (up-by (number + more) less (omega arith))
 
 -- the exponent, less the places, plus the zeros: both sides of its sign
 pub power-raised : (n places zeros : ℕ) → pos (n + zeros) -ℤ pos places ≡ withSign false n -ℤ pos places +ℤ pos zeros
@@ -209,3 +209,20 @@ power-lowered n places zeros = go (pos n) (pos places) (pos zeros)
   where
     go : (a b c : ℤ) → negℤ ((a +ℤ b) -ℤ c) ≡ negℤ a -ℤ b +ℤ c
     go a b c = simp ring
+
+-- ---- a number that is as good gives the same power, with no more places and zeros than a slice has bytes
+
+far-off : (m : Bool) (n places zeros : ℕ) → large * 10 ≤ n → places ≤ room → zeros ≤ room → mostPower < natAbs (withSign m n -ℤ pos places +ℤ pos zeros)
+far-off false n places zeros h p q =
+    subst (λ (z : ℤ). mostPower < natAbs z) (power-raised n places zeros)
+    (rw (up-by (n + zeros) places (omega arith)) (omega arith))
+far-off true n places zeros h p q =
+    subst (λ (z : ℤ). mostPower < natAbs z) (power-lowered n places zeros)
+    (rw (natAbs-neg (pos (n + places) -ℤ pos zeros), up-by (n + places) zeros (omega arith)) (omega arith))
+
+pub saturated-power : (m : Bool) (n number places zeros : ℕ) → Saturated n number → places ≤ room → zeros ≤ room
+    → powerWithin (withSign m number -ℤ pos places +ℤ pos zeros) ≡ powerWithin (withSign m n -ℤ pos places +ℤ pos zeros)
+saturated-power m n number places zeros (inl s) p q = ap (λ (k : ℕ). powerWithin (withSign m k -ℤ pos places +ℤ pos zeros)) s
+saturated-power m n number places zeros (inr s) p q =
+    sym (power-outside (withSign m number -ℤ pos places +ℤ pos zeros) (far-off m number places zeros (s .0) p q))
+    ∙ power-outside (withSign m n -ℤ pos places +ℤ pos zeros) (far-off m n places zeros (s .1) p q)

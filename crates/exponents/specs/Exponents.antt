@@ -1,11 +1,11 @@
 -- What the code's exponents stand for: their digits, their number, and the power of ten that they come to.
 -- Assumes nothing.
 use mathlib.Core.Path.{_≡_}
-use mathlib.Core.Bool.{Bool, true, false, _||_}
+use mathlib.Core.Bool.{Bool, true, false, cond, _||_}
 use mathlib.Core.Logic.{_⊎_}
-use mathlib.Core.Option.{none, some}
-use Prim.Native.Nat.{ℕ, _*_, _^_, _≤_, _<_}
-use lib.Dec.{eqb}
+use mathlib.Core.Option.{Option, none, some}
+use Prim.Native.Nat.{ℕ, _*_, _^_, _≤_}
+use lib.Dec.{ltb, eqb}
 use lib.IntN.{ℤ, pos, negℤ, natAbs}
 use Rattle.text.specs.Bytes.{Bytes, isNumeral, numberOf}
 use Rattle.numerals.specs.Spelling.{Sign, isMinus, mostPower}
@@ -49,8 +49,17 @@ ExponentRead t exponent.NotDigits = (capital : Bool) → afterLetter capital t �
 
 -- ---- powers of ten
 
--- x by its cases: up or down by at most 18, or outside -18 to 18
-abbrev pub PowerIs : ℤ → Power → Type 0
-PowerIs x (power.Up k) = (k ≤ mostPower) × (x ≡ pos k)
-PowerIs x (power.Down k) = (k ≤ mostPower) × (x ≡ negℤ (pos k))
-PowerIs x power.Outside = mostPower < natAbs x
+-- the power that a case stands for
+abbrev pub powerSays : Power → Option ℤ
+powerSays (power.Up k) = some (pos k)
+powerSays (power.Down k) = some (negℤ (pos k))
+powerSays power.Outside = none
+
+-- 02: "x outside -18 to 18"
+abbrev pub powerWithin : ℤ → Option ℤ
+powerWithin x = cond (ltb mostPower (natAbs x)) none (some x)
+
+-- the opposite power
+abbrev pub opposed : Option ℤ → Option ℤ
+opposed none = none
+opposed (some x) = some (negℤ x)

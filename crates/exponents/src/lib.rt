@@ -1,10 +1,10 @@
 // The exponent of a value: `E` or `e`, an optional sign and digits; and the power of ten that it comes to.
 ghost use mathlib.Core.Path.{_≡_};
 ghost use Prim.Native.Nat.{ℕ, _+_, _*_, _≤_};
-ghost use lib.IntN.{ℤ, pos, negℤ, _+ℤ_, _-ℤ_};
+ghost use lib.IntN.{pos, _+ℤ_, _-ℤ_};
 ghost use lib.ListN.{drop};
 ghost use Rattle.integers.specs.Signs.{withSign};
-ghost use Rattle.exponents.specs.Exponents.{room, isLetter, Saturated, NumberRead, ExponentRead, PowerIs};
+ghost use Rattle.exponents.specs.Exponents.{isLetter, Saturated, NumberRead, ExponentRead, powerSays, powerWithin, opposed};
 // The greatest power of ten, up or down.
 const MOST_POWER: usize = 18;
 
@@ -88,7 +88,7 @@ pub enum Power {
 }
 
 fn opposite(x: Power) -> Power
-    ensures { λ r. ⌜ ((z : ℤ) → PowerIs z x → PowerIs (negℤ z) r) ⌝ }
+    ensures { λ r. ⌜ powerSays r ≡ opposed (powerSays x) ⌝ }
 {
     match x {
         Power::Up(k) => Power::Down(k),
@@ -99,7 +99,7 @@ fn opposite(x: Power) -> Power
 
 // up - down.
 fn difference(up: usize, down: usize) -> Power
-    ensures { λ r. ⌜ PowerIs (pos up -ℤ pos down) r ⌝ }
+    ensures { λ r. ⌜ powerSays r ≡ powerWithin (pos up -ℤ pos down) ⌝ }
 {
     if down <= up {
         let k = up - down;
@@ -117,7 +117,7 @@ fn difference(up: usize, down: usize) -> Power
 
 // An exponent's number, plus `more`, less `less`.
 fn balance(number: usize, more: usize, less: usize) -> Power
-    ensures { λ r. ⌜ ((n : ℕ) → less ≤ room → Saturated n number → PowerIs (pos (n + more) -ℤ pos less) r) ⌝ }
+    ensures { λ r. ⌜ powerSays r ≡ powerWithin (pos (number + more) -ℤ pos less) ⌝ }
 {
     if more < less {
         return difference(number, less - more);
@@ -134,7 +134,7 @@ fn balance(number: usize, more: usize, less: usize) -> Power
 
 // The power of ten: the exponent, less the digits after the point, plus the trailing zeros that were dropped.
 pub fn power_of(minus: bool, number: usize, places: usize, zeros: usize) -> Power
-    ensures { λ r. ⌜ ((n : ℕ) → places ≤ room → zeros ≤ room → Saturated n number → PowerIs (withSign minus n -ℤ pos places +ℤ pos zeros) r) ⌝ }
+    ensures { λ r. ⌜ powerSays r ≡ powerWithin (withSign minus number -ℤ pos places +ℤ pos zeros) ⌝ }
 {
     if minus {
         opposite(balance(number, places, zeros))

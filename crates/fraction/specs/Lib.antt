@@ -1,2 +1,3 @@
--- What the private functions are given of the result of a product or a sum.
+-- What the public functions promise; then the terms of contracts that no caller sees.
+pub mod Promise
 pub mod Results

@@ -1,4 +1,5 @@
--- What the private functions are given of the exact result of a product or a sum.
+-- What is known of the exact result of a product or a sum before it is brought to lowest terms: the terms of contracts that no
+-- caller sees.
 -- Assumes nothing.
 use mathlib.Core.Path.{_≡_}
 use mathlib.Core.Bool.{Bool}
@@ -8,7 +9,7 @@ use Rattle.arithmetic.specs.Parts.{lowestTerms}
 use Rattle.arithmetic.specs.declared.Fraction.{Fraction}
 use Rattle.arithmetic.specs.declared.Ratio.{Ratio}
 
--- numerator and denominator have no common divisors
+-- numerator and denominator have no common divisor but 1
 abbrev pub inLowestTerms : Fraction → Bool
 inLowestTerms f = lowestTerms (f .num) (natAbs (f .den))
 

@@ -1,6 +1,6 @@
 // Values within the limit: fractions in lowest terms, whose numerator and denominator have magnitudes of at most
-// 2,147,483,647, with product, sum, comparison, floor and ceiling. No public function asks anything of its caller: operands
-// that are no fractions are refused.
+// 2,147,483,647, with product, sum, a sum and a product more, comparison, floor and ceiling, and any quotient of whole numbers
+// brought to such a fraction. No public function asks anything of its caller: operands that are no fractions are refused.
 ghost use mathlib.Core.Path.{_≡_};
 ghost use mathlib.Core.Bool.{_&&_};
 ghost use Prim.Native.Nat.{_<_, _∣_};
@@ -8,8 +8,9 @@ ghost use lib.Dec.{eqb};
 ghost use lib.IntN.{natAbs};
 ghost use Rattle.integers.specs.Gcd.{gcd as gcdOf};
 ghost use Rattle.arithmetic.specs.Quotient.{lowest};
-ghost use Rattle.arithmetic.specs.Fraction.{isFraction, ratioOf, onFractions, within as withinOf, reducedOf, productOf, sumOf, addProductOf, compareOf, floorOf, ceilingOf, arithmeticSays, comparisonSays, roundingSays};
+ghost use Rattle.arithmetic.specs.Fraction.{isFraction, ratioOf, onFractions, within as withinOf, arithmeticSays, comparisonSays, roundingSays};
 ghost use Rattle.arithmetic.specs.Parts.{isShaped};
+ghost use Rattle.fraction.specs.Promise.{ProductMeant, SumMeant, ReducedMeant, AddProductMeant, ComparisonMeant, FloorMeant, CeilingMeant};
 ghost use Rattle.fraction.specs.Results.{inLowestTerms, ResultOf};
 pub use arithmetic::Arithmetic;
 pub use arithmetic::Comparison;
@@ -33,7 +34,7 @@ fn parts(f: Fraction) -> Pair
     }
 }
 
-// Whether numerator and denominator have no common divisors. A whole number needs no greatest common divisor.
+// Whether a pair is in lowest terms. A whole number needs no greatest common divisor.
 fn is_lowest(f: Fraction) -> bool
     ensures { λ r. ⌜ r ≡ inLowestTerms f ⌝ }
 {
@@ -67,7 +68,7 @@ fn both_shaped(a: Fraction, b: Fraction) -> bool
     }
 }
 
-// Whether two pairs have no common divisors. Where neither is whole, one loop tells it of both.
+// Whether two pairs are in lowest terms. Where neither is whole, one loop tells it of both.
 fn both_lowest(a: Fraction, b: Fraction) -> bool
     ensures { λ r. ⌜ r ≡ inLowestTerms a && inLowestTerms b ⌝ }
 {
@@ -92,6 +93,13 @@ fn both(a: Fraction, b: Fraction) -> bool
     } else {
         false
     }
+}
+
+// Whether three pairs are fractions.
+fn all_three(a: Fraction, b: Fraction, c: Fraction) -> bool
+    ensures { λ r. ⌜ r ≡ isFraction a && (isFraction b && isFraction c) ⌝ }
+{
+    if is_fraction(a) { both(b, c) } else { false }
 }
 
 // ---- product and sum
@@ -170,7 +178,7 @@ fn lowest_result(a: Fraction, b: Fraction, q: Ratio) -> Arithmetic
 }
 
 pub fn product(a: Fraction, b: Fraction) -> Arithmetic
-    ensures { λ r. ⌜ arithmeticSays r ≡ productOf a b ⌝ }
+    ensures { λ r. ⌜ ProductMeant a b (arithmeticSays r) ⌝ }
 {
     if both_shaped(a, b) {
         lowest_result(a, b, arithmetic::multiplied(a, b))
@@ -180,7 +188,7 @@ pub fn product(a: Fraction, b: Fraction) -> Arithmetic
 }
 
 pub fn sum(a: Fraction, b: Fraction) -> Arithmetic
-    ensures { λ r. ⌜ arithmeticSays r ≡ sumOf a b ⌝ }
+    ensures { λ r. ⌜ SumMeant a b (arithmeticSays r) ⌝ }
 {
     if both_shaped(a, b) {
         lowest_result(a, b, arithmetic::added(a, b))
@@ -191,21 +199,17 @@ pub fn sum(a: Fraction, b: Fraction) -> Arithmetic
 
 // n / d, negated if asked, brought to lowest terms. No fraction has the denominator 0.
 pub fn reduced(negative: bool, n: u64, d: u64) -> Arithmetic
-    ensures { λ r. ⌜ arithmeticSays r ≡ reducedOf negative n d ⌝ }
+    ensures { λ r. ⌜ ReducedMeant negative n d (arithmeticSays r) ⌝ }
 {
     arithmetic::reduced(negative, n, d)
 }
 
 // A sum and a product more: a * b, then sum + a * b, each brought to lowest terms within the limit.
 pub fn add_product(sum: Fraction, a: Fraction, b: Fraction) -> Arithmetic
-    ensures { λ r. ⌜ arithmeticSays r ≡ addProductOf sum a b ⌝ }
+    ensures { λ r. ⌜ AddProductMeant sum a b (arithmeticSays r) ⌝ }
 {
-    let p = product(a, b);
-    let Arithmetic::Value(v) = p else {
-        return p;
-    };
-    if is_fraction(sum) {
-        arithmetic::sum(sum, v)
+    if all_three(sum, a, b) {
+        arithmetic::add_product(sum, a, b)
     } else {
         Arithmetic::NotAFraction
     }
@@ -214,7 +218,7 @@ pub fn add_product(sum: Fraction, a: Fraction, b: Fraction) -> Arithmetic
 // ---- comparison and rounding
 
 pub fn compare(a: Fraction, b: Fraction) -> Comparison
-    ensures { λ r. ⌜ comparisonSays r ≡ compareOf a b ⌝ }
+    ensures { λ r. ⌜ ComparisonMeant a b (comparisonSays r) ⌝ }
 {
     if both(a, b) {
         arithmetic::compare(a, b)
@@ -224,7 +228,7 @@ pub fn compare(a: Fraction, b: Fraction) -> Comparison
 }
 
 pub fn floor(a: Fraction) -> Rounding
-    ensures { λ r. ⌜ roundingSays r ≡ floorOf a ⌝ }
+    ensures { λ r. ⌜ FloorMeant a (roundingSays r) ⌝ }
 {
     if is_fraction(a) {
         arithmetic::floor(a)
@@ -234,7 +238,7 @@ pub fn floor(a: Fraction) -> Rounding
 }
 
 pub fn ceiling(a: Fraction) -> Rounding
-    ensures { λ r. ⌜ roundingSays r ≡ ceilingOf a ⌝ }
+    ensures { λ r. ⌜ CeilingMeant a (roundingSays r) ⌝ }
 {
     if is_fraction(a) {
         arithmetic::ceiling(a)

@@ -188,7 +188,7 @@ fn sums() {
     sum(2147483647, 2147483646, 2147483647, 2147483645);
 }
 
-// Whole numbers, fractions and 0; then what is refused: an operand, a product, a sum.
+// Whole numbers, fractions and 0; then what is refused: an operand, also where the product is too wide, a product, a sum.
 fn sums_of_products() {
     add_product(5, 1, -3, 1, 4, 1);
     add_product(7, 1, 0, 1, -9, 1);
@@ -212,6 +212,13 @@ fn sums_of_products() {
     add_product(1, 1, 65536, 1, 32768, 1);
     add_product(-2147483647, 1, 65536, 1, 32768, 1);
     add_product(2, 4, 65536, 1, 32768, 1);
+    add_product(1, 0, 65536, 1, 32768, 1);
+    add_product(1, 1, 131072, 2, 32768, 1);
+    add_product(1, 1, 65536, 1, 65536, 2);
+    add_product(4, 2, 2147483647, 1, 1, 1);
+    add_product(-1, 1, 65536, 1, 32768, 1);
+    add_product(1, 1, 65536, 1, 32767, 1);
+    add_product(1, 1, 2147483647, 1, -1, 1);
     add_product(1, 2, 1, 65536, 1, 32768);
     add_product(2147483647, 1, 1, 1, 1, 1);
     add_product(-2147483647, 1, 1, 1, -1, 1);

@@ -1,98 +1,26 @@
--- Reading agrees with spelling, for every format: what is read is spelled by the tokens taken (`sound`), and what tokens
--- spell is read from them (`complete`). So no tokens spell two (`once`).
+-- Reading agrees with spelling: what is read is spelled by the tokens taken (`sound`), for every format, and what tokens spell
+-- is read from them (`complete`), for every format that is `Clear`. So no tokens spell two by such a format (`once`).
 -- Assumes nothing.
 use mathlib.Core.Path.{_≡_, refl, sym, _∙_, ap, subst}
-use mathlib.Core.Bool.{Bool, true, false, not}
 use mathlib.Core.List.{List, [], _∷_, _++_, append-assoc, append-nil}
-use mathlib.Core.Option.{Option, none, some}
-use Prim.Native.Nat.{ℕ, zero, suc, _<_}
-use native.Mathlib.Omega.{arith}
-use borrow.Author.Tests.{ltb-true, lt-ltb}
-use lib.Dec.{ltb, eqb}
+use Prim.Native.Nat.{ℕ, zero, suc}
 use lib.ListN.{length}
-use Rattle.text.specs.Bytes.{same, isNumeral, numberOf}
-use Rattle.text.specs.BytesLaws.{same-true, same-refl}
 use Rattle.text.specs.Tokens.{Token, Stream, end, token, join}
 use Rattle.arithmetic.specs.Outcome.{Outcome, gives, refuses}
-use Rattle.numerals.proofs.Agreement.{value-read}
-use Rattle.grammar.specs.Format.{Or, instead, given, Symbol, word, placed, choice, number, name, rowName, value, or, Format, symbol, then, items, nothing, view}
-use Rattle.grammar.specs.Spelling.{isAmong, meaningOf, isName, OrSpelled, SymbolSpelled, ItemsSpelled, Spells}
-use Rattle.grammar.specs.Reading.{unless, chosen, orElse, decode, Read, got, stopped, onward, kept, readSymbol, readItems, read}
+use Rattle.grammar.specs.Format.{Symbol, Format, symbol, then, items, nothing, view}
+use Rattle.grammar.specs.Spelling.{SymbolSpelled, ItemsSpelled, ListSpelled, Spells}
+use Rattle.grammar.specs.Reading.{decode, Read, got, stopped, onward, kept, readSymbol, readItems, read}
+use Rattle.grammar.specs.SymbolAgreement.{impossible, decode-sound, ClearSymbol, decode-complete}
 
--- ---- one token
+-- ---- formats by which no tokens spell two
 
--- from two constructors that are equal, by `cc`
-pub impossible : {A : Type 0} → _≡_ {A = ℕ} 0 1 → A
-impossible z = absurd (omega arith)
-
--- what a test that was passed says
-unless-gives : {A : Type 0} (r : ℕ) (b : Bool) (o : Outcome A) (a : A) → unless r b o ≡ gives a → (b ≡ true) × (o ≡ gives a)
-unless-gives r true o a e = (refl, e)
-unless-gives r false o a e = impossible (cc)
-
-not-true : (b : Bool) → not b ≡ true → b ≡ false
-not-true true e = sym e
-not-true false e = refl
-
-chosen-gives : {A : Type 0} (out : A → Bool) (m : Option A) (a : A) → chosen out m ≡ gives a → (m ≡ some a) × (out a ≡ false)
-chosen-gives out none a e = impossible (cc)
-chosen-gives out (some b) a e =
-    let h = unless-gives 5 (not (out b)) (gives b) a e in
-    let p : b ≡ a = cc (h .1) in
-    (ap some p, subst (λ x. out x ≡ false) p (not-true (out b) (h .0)))
-
-decode-sound : {A : Type 0} (s : Symbol A) (t : Token) (a : A) → decode s t ≡ gives a → SymbolSpelled s a t
-decode-sound (word w) t u e = same-true (t .bytes) w (unless-gives 4 (same (t .bytes) w) (gives tt) u e .0)
-decode-sound (placed w) t p e =
-    let h = unless-gives 4 (same (t .bytes) w) (gives (t .place)) p e in
-    (same-true (t .bytes) w (h .0), cc (h .1))
-decode-sound (choice cell words out) t a e = chosen-gives out (meaningOf words (t .bytes)) a e
-decode-sound (number bound used) t n e =
-    let w = t .bytes in
-    let m = numberOf w in
-    let h = unless-gives 4 (isNumeral w) (unless 5 (ltb m bound) (unless 6 (not (isAmong eqb m used)) (gives m))) n e in
-    let i = unless-gives 5 (ltb m bound) (unless 6 (not (isAmong eqb m used)) (gives m)) n (h .1) in
-    let j = unless-gives 6 (not (isAmong eqb m used)) (gives m) n (i .1) in
-    let p : m ≡ n = cc (j .1) in
-    record {
-      digits = h .0;
-      spelled = p;
-      in-range = subst (λ (k : ℕ). k < bound) p (ltb-true m bound (i .0));
-      distinct = subst (λ (k : ℕ). isAmong eqb k used ≡ false) p (not-true (isAmong eqb m used) (j .0));
-    }
-decode-sound name t n e =
-    let h = unless-gives 4 (isName (t .bytes)) (gives t) n e in
-    let p : t ≡ n = cc (h .1) in
-    (p, subst (λ (x : Token). isName (x .bytes) ≡ true) p (h .0))
-decode-sound (rowName row used) t n e =
-    let h = unless-gives 4 (isName (t .bytes)) (unless 6 (not (isAmong same (t .bytes) used)) (gives t)) n e in
-    let i = unless-gives 6 (not (isAmong same (t .bytes) used)) (gives t) n (h .1) in
-    let p : t ≡ n = cc (i .1) in (
-      p,
-      subst (λ (x : Token). isName (x .bytes) ≡ true) p (h .0),
-      subst (λ (x : Token). isAmong same (x .bytes) used ≡ false) p (not-true (isAmong same (t .bytes) used) (i .0)),
-    )
-decode-sound (value cells) t f e = value-read (t .bytes) .gives-spelled f .0 e
-decode-sound (or {A = A} w cell s) t x e = either (λ a p. decode-sound s t a p) (same (t .bytes) w) refl (decode s t) refl x e
-  where
-    either : ((a : A) → decode s t ≡ gives a → SymbolSpelled s a t) → (b : Bool) → same (t .bytes) w ≡ b → (o : Outcome A) → decode s t ≡ o
-        → (y : Or A) → orElse b o ≡ gives y → OrSpelled w (λ a. SymbolSpelled s a t) y (t .bytes)
-    either ih true p o q instead r = same-true (t .bytes) w p
-    either ih true p o q (given a) r = impossible (cc)
-    either ih false p (gives a) q instead r = impossible (cc)
-    either ih false p (gives a) q (given b) r = let eq : a ≡ b = cc in (p, ih b (q ∙ ap gives eq))
-    either ih false p (refuses k) q y r = impossible (cc)
-
-decode-complete : {A : Type 0} (s : Symbol A) (t : Token) (a : A) → SymbolSpelled s a t → decode s t ≡ gives a
-decode-complete (word w) t u h = rw (h, same-refl w)
-decode-complete (placed w) t p h = rw (h .0, same-refl w) (ap gives (h .1))
-decode-complete (choice cell words out) t a h = rw (h .0, h .1)
-decode-complete (number bound used) t n h = rw (h .digits, h .spelled, lt-ltb n bound (h .in-range), h .distinct)
-decode-complete name t n h = rw (h .0, h .1)
-decode-complete (rowName row used) t n h = rw (h .0, h .1, h .2)
-decode-complete (value cells) t f h = value-read (t .bytes) .gives-spelled f .1 h
-decode-complete (or w cell s) t instead h = rw (h, same-refl w)
-decode-complete (or w cell s) t (given a) h = rw (h .0, decode-complete s t a (h .1))
+-- each symbol is clear, wherever it stands
+abbrev pub Clear : {A : Type 0} → Format A → Type 0
+Clear (symbol s) = ClearSymbol s
+Clear (then {A = A} f g) = Clear f × ((a : A) → Clear (g a))
+Clear (items {A = A} n g) = (before : List A) → Clear (g before)
+Clear nothing = Unit {0}
+Clear (view to from p q f) = Clear f
 
 -- ---- streams
 
@@ -130,20 +58,20 @@ items-complete : {A : Type 0} (P : List A → A → List Token → Type 0) (R : 
     → readItems R (length xs) before (join us o) ≡ got (before ++ xs) o
 items-complete P R one before [] us o e = rw (e, append-nil before)
 items-complete P R one before (x ∷ xs) us o h =
-    rw (h .2, join-append, one before x (h .0) (join (h .1) o) (h .3))
-    (items-complete P R one (before ++ (x ∷ [])) xs (h .1) o (h .4) ∙ ap (λ (l : List _). got l o) (append-assoc before (x ∷ []) xs))
+    rw (h .tokens, join-append, one before x (h .front) (join (h .back) o) (h .first))
+    (items-complete P R one (before ++ (x ∷ [])) xs (h .back) o (h .second) ∙ ap (λ (l : List _). got l o) (append-assoc before (x ∷ []) xs))
 
 -- what tokens spell is read from them, whatever follows
-pub complete : {A : Type 0} (f : Format A) (a : A) (us : List Token) (o : Stream) → Spells f a us → read f (join us o) ≡ got a o
+pub complete : {A : Type 0} (f : Format A) (a : A) (us : List Token) (o : Stream) → Clear f → Spells f a us → read f (join us o) ≡ got a o
 unfolding read
-complete (symbol y) a us o h = rw (h .1, decode-complete y (h .0) a (h .2))
-complete (then f g) ab us o h =
-    rw (h .2, join-append, complete f (ab .0) (h .0) (join (h .1) o) (h .3), complete (g (ab .0)) (ab .1) (h .1) o (h .4))
-complete (items n g) xs us o h =
-    rw (← h .0)
-    (items-complete (λ before x vs. Spells (g before) x vs) (λ before v. read (g before) v) (λ before x vs w p. complete (g before) x vs w p) [] xs us o (h .1))
-complete nothing u us o h = rw h
-complete (view to from p q f) b us o h = rw (complete f (from b) us o h, q b)
+complete (symbol y) a us o c h = rw (h .alone, decode-complete y (h .token) a c (h .spelled))
+complete (then f g) ab us o c h =
+    rw (h .tokens, join-append, complete f (ab .0) (h .front) (join (h .back) o) (c .0) (h .first), complete (g (ab .0)) (ab .1) (h .back) o (c .1 (ab .0)) (h .second))
+complete (items n g) xs us o c h =
+    rw (← h .counted)
+    (items-complete (λ before x vs. Spells (g before) x vs) (λ before v. read (g before) v) (λ before x vs w p. complete (g before) x vs w (c before) p) [] xs us o (h .each))
+complete nothing u us o c h = rw h
+complete (view to from p q f) b us o c h = rw (complete f (from b) us o c h, q b)
 
 items-sound : {A : Type 0} (P : List A → A → List Token → Type 0) (R : List A → Stream → Read A)
     → ((before : List A) (s : Stream) (x : A) (o : Stream) → R before s ≡ got x o → (us : List Token) × (s ≡ join us o) × P before x us)
@@ -162,7 +90,7 @@ items-sound P R one (suc n) before s xs o e =
       ap suc (more .2),
       first .0 ++ more .3,
       joined s (h .1) (first .0) (more .3) o o (first .1) (more .4) refl,
-      (first .0, more .3, refl, first .2, more .5),
+      record { front = first .0; back = more .3; tokens = refl; first = first .2; second = more .5 },
     )
 
 -- what is read is spelled by the tokens taken
@@ -171,7 +99,7 @@ pub sound : {A : Type 0} (f : Format A) (s : Stream) (a : A) (o : Stream) → re
 unfolding read
 sound (symbol y) s a o e =
     let h = symbol-sound y s a o e in
-    (h .0 ∷ [], h .1, (h .0, refl, h .2))
+    (h .0 ∷ [], h .1, record { token = h .0; alone = refl; spelled = h .2 })
 sound (then f g) s ab o e =
     let h = onward-got (read f s) (λ a u. onward (read (g a) u) (λ b v. got (a, b) v)) ab o e in
     let i = onward-got (read (g (h .0)) (h .1)) (λ b v. got (h .0, b) v) ab o (h .3) in
@@ -181,11 +109,12 @@ sound (then f g) s ab o e =
     let q : i .1 ≡ o = cc (i .3) in (
       first .0 ++ second .0,
       joined s (h .1) (first .0) (second .0) (i .1) o (first .1) (second .1) q,
-      subst (λ x. Spells (then f g) x (first .0 ++ second .0)) p (first .0, second .0, refl {a = first .0 ++ second .0}, first .2, second .2),
+      subst (λ x. Spells (then f g) x (first .0 ++ second .0)) p
+      (record { front = first .0; back = second .0; tokens = refl {a = first .0 ++ second .0}; first = first .2; second = second .2 }),
     )
 sound (items n g) s xs o e =
     let r = items-sound (λ before x vs. Spells (g before) x vs) (λ before v. read (g before) v) (λ before v x w p. sound (g before) v x w p) n [] s xs o e in
-    (r .3, r .4, subst (λ l. (length l ≡ n) × ItemsSpelled (λ before x vs. Spells (g before) x vs) [] l (r .3)) (r .1) (r .2, r .5))
+    (r .3, r .4, subst (λ l. ListSpelled n (λ before x vs. Spells (g before) x vs) l (r .3)) (r .1) (record { counted = r .2; each = r .5 }))
 sound nothing s u o e =
     let left : s ≡ o = cc in
     ([], left, refl)
@@ -200,8 +129,8 @@ sound (view to from p q f) s b o e =
     )
 
 -- no tokens spell two
-pub once : {A : Type 0} (f : Format A) (a b : A) (ts : List Token) → Spells f a ts → Spells f b ts → a ≡ b
-once f a b ts h k =
-    let p = complete f a ts (end 0) h in
-    let q = complete f b ts (end 0) k in
+pub once : {A : Type 0} (f : Format A) (a b : A) (ts : List Token) → Clear f → Spells f a ts → Spells f b ts → a ≡ b
+once f a b ts c h k =
+    let p = complete f a ts (end 0) c h in
+    let q = complete f b ts (end 0) c k in
     cc

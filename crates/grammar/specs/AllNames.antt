@@ -1,178 +1,243 @@
--- "all names" of a certificate (document 01, "Tables lent by the caller"): the variables', "which the text alone holds", and then
--- those that the row table keeps, in file order: `tree-names`.
+-- "all names" of a certificate, in file order (document 01, "Tables lent by the caller"): the variables', the given rows', the
+-- solutions' and the derived rows' (`tree-names`); and the variables', "which the text alone holds", stand in the text.
 -- Assumes nothing.
 use mathlib.Core.Path.{_≡_, refl, sym, _∙_, ap, ap₂}
-use mathlib.Core.List.{List, [], _∷_, _++_, map, map-append}
-use Prim.Native.Nat.{ℕ, _+_}
-use lib.ListN.{length}
+use mathlib.Core.List.{List, [], _∷_, _++_, map, map-id, map-append, append-nil, List·Memᴰ, List·Memᴰ·head, List·Memᴰ·cases-cons, List·Memᴰ·not-nil, Memᴰ·append-left, Memᴰ·append-right}
+use mathlib.Core.Logic.{_⊎_, inl, inr}
+use Prim.Native.Nat.{ℕ}
 use Rattle.text.specs.Bytes.{Bytes}
 use Rattle.text.specs.Tokens.{Token}
-use Rattle.arithmetic.specs.declared.Fraction.{Fraction}
-use Rattle.grammar.specs.Tree.{Tree, Integers, Objective, Constraints, Relation, Solutions, Derivations, Derivation, Solution}
+use Rattle.grammar.specs.Lists.{Each, each-none, each-one, each-append, each-map}
+use Rattle.grammar.specs.Tree.{Tree, Constraints, Row, Derivation, Solution}
 use Rattle.grammar.specs.Format.{Or, instead, given, Symbol, word, placed, choice, number, name, rowName, value, or, Format, symbol, then, items, nothing, view}
-use Rattle.grammar.specs.Certificate.{pair, pairList, termList, listedTerms, side, row, rowNames, ReasonWord, asmWord, linWord, rndWord, unsWord, solWord, detail, derivation, solution, ClaimWord, infeasWord, rangeWord, ends, section, version, variables, integers, objectiveSection, constraints, relation, solutionSection, derivationSection, certificate}
-use Rattle.grammar.specs.Layout.{Mark, symbolNames, symbolMarks, gatherItems, gather, cells, values, names, marksItems, marks}
+use Rattle.grammar.specs.Spelling.{ItemsSpelled, Spells}
+use Rattle.grammar.specs.Certificate.{pair, pairList, listedTerms, side, row, rowNames, ReasonWord, asmWord, linWord, rndWord, unsWord, solWord, detail, derivation, solution, ClaimWord, infeasWord, rangeWord, ends, section, variables, integers, objectiveSection, constraints, relation, solutionSection, derivationSection, certificate}
+use Rattle.grammar.specs.Layout.{symbolNames, gatherItems, gather, names}
+use Rattle.grammar.specs.Texts.{SpellsTree}
+use Rattle.grammar.specs.Names.{StandsIn, text-tokens-stand}
 
--- the names of marks
-abbrev pub markNames : List Mark → List Bytes
-markNames ms = map (λ (m : Mark). m .name .bytes) ms
+-- the names of a certificate, in file order
+abbrev pub rowTokens : List Row → List Token
+rowTokens rows = map (λ (r : Row). r .name) rows
 
--- each name of what a format keeps is kept by the row table too
-record Keeps {A : Type 0} (f : Format A) : Type 0 where
-  are : (a : A) (i v : ℕ) → names f a ≡ markNames (marks f a i v)
+abbrev pub solutionTokens : List Solution → List Token
+solutionTokens solutions = map (λ (s : Solution). s .name) solutions
 
--- ---- for every format, but where a variable's name is due
+abbrev pub derivationTokens : List Derivation → List Token
+derivationTokens derivations = map (λ (d : Derivation). d .row .name) derivations
 
-abbrev Kept : {A : Type 0} → Symbol A → Type 0
-Kept (word w) = Unit {0}
-Kept (placed w) = Unit {0}
-Kept (choice cell words out) = Unit {0}
-Kept (number bound used) = Unit {0}
-Kept name = ⊥
-Kept (rowName row used) = Unit {0}
-Kept (value cells) = Unit {0}
-Kept (or w cell y) = Kept y
+abbrev pub nameTokens : Tree → List Token
+nameTokens t =
+    t .variables .names
+    ++ (rowTokens (t .constraints .rows)
+    ++ (solutionTokens (t .solutions .solutions)
+    ++ derivationTokens (t .derivations .derivations)))
 
-symbol-names : {A : Type 0} (y : Symbol A) → Kept y → (a : A) (i v : ℕ) → symbolNames y a ≡ markNames (symbolMarks y a i v)
-symbol-names (word w) k a i v = refl
-symbol-names (placed w) k a i v = refl
-symbol-names (choice cell words out) k a i v = refl
-symbol-names (number bound used) k a i v = refl
-symbol-names name k a i v = absurd k
-symbol-names (rowName row used) k a i v = refl
-symbol-names (value cells) k a i v = refl
-symbol-names (or w cell y) k instead i v = refl
-symbol-names (or w cell y) k (given a) i v = symbol-names y k a i v
+abbrev pub spellings : List Token → List Bytes
+spellings ts = map (λ (t : Token). t .bytes) ts
 
-one-keeps : {A : Type 0} {y : Symbol A} → Kept y → Keeps (symbol y)
-unfolding gather marks
-one-keeps {y = y} k = record { are = λ a i v. symbol-names y k a i v }
+-- ---- for every format
 
-nothing-keeps : Keeps nothing
-unfolding gather marks
-nothing-keeps = record { are = λ a i v. refl }
+-- what a format keeps of names are these tokens
+record Named {A : Type 0} (f : Format A) (N : A → List Token) : Type 0 where
+  are : (a : A) → names f a ≡ spellings (N a)
+
+-- a symbol that is no name
+abbrev Nameless : {A : Type 0} → Symbol A → Type 0
+Nameless (word w) = Unit {0}
+Nameless (placed w) = Unit {0}
+Nameless (choice cell words out) = Unit {0}
+Nameless (number bound used) = Unit {0}
+Nameless name = ⊥
+Nameless (rowName row used) = ⊥
+Nameless (value cells) = Unit {0}
+Nameless (or w cell y) = Nameless y
+
+no-name : {A : Type 0} (y : Symbol A) → Nameless y → (a : A) → symbolNames y a ≡ []
+no-name (word w) n a = refl
+no-name (placed w) n a = refl
+no-name (choice cell words out) n a = refl
+no-name (number bound used) n a = refl
+no-name name n a = absurd n
+no-name (rowName row used) n a = absurd n
+no-name (value cells) n a = refl
+no-name (or w cell y) n instead = refl
+no-name (or w cell y) n (given a) = no-name y n a
+
+one-nameless : {A : Type 0} {y : Symbol A} → Nameless y → Named (symbol y) (λ a. [])
+unfolding gather
+one-nameless {y = y} n = record { are = no-name y n }
+
+variable-named : Named (symbol name) (λ t. t ∷ [])
+unfolding gather
+variable-named = record { are = λ t. refl }
+
+row-named : (r : ℕ) (used : List Bytes) → Named (symbol (rowName r used)) (λ t. t ∷ [])
+unfolding gather
+row-named r used = record { are = λ t. refl }
+
+nothing-nameless : Named nothing (λ a. [])
+unfolding gather
+nothing-nameless = record { are = λ a. refl }
 
 module _ {A : Type 0} {B : A → Type 0} {f : Format A} {g : (a : A) → Format (B a)} where
-  then-keeps : Keeps f → ((a : A) → Keeps (g a)) → Keeps (then f g)
-  unfolding gather marks
-  then-keeps h k = record { are = λ ab i v. ap₂ _++_ (h .are (ab .0) i v) (k (ab .0) .are (ab .1) _ _) ∙ sym (map-append _ (marks f (ab .0) i v) _) }
+  then-named : {N : A → List Token} {M : (a : A) → B a → List Token} → Named f N → ((a : A) → Named (g a) (M a)) → Named (then f g) (λ ab. N (ab .0) ++ M (ab .0) (ab .1))
+  unfolding gather
+  then-named {N} {M} h k = record { are = λ ab. ap₂ _++_ (h .are (ab .0)) (k (ab .0) .are (ab .1)) ∙ sym (map-append _ (N (ab .0)) (M (ab .0) (ab .1))) }
+
+  then-nameless : Named f (λ a. []) → ((a : A) → Named (g a) (λ b. [])) → Named (then f g) (λ ab. [])
+  then-nameless h k = record { are = then-named h k .are }
+
+  -- of the second part alone, and of the first
+  first-nameless : {M : (a : A) → B a → List Token} → Named f (λ a. []) → ((a : A) → Named (g a) (M a)) → Named (then f g) (λ ab. M (ab .0) (ab .1))
+  first-nameless h k = record { are = then-named h k .are }
+
+  first-named : {N : A → List Token} → Named f N → ((a : A) → Named (g a) (λ b. [])) → Named (then f g) (λ ab. N (ab .0))
+  unfolding gather
+  first-named {N} h k = record { are = λ ab. ap₂ _++_ (h .are (ab .0)) (k (ab .0) .are (ab .1)) ∙ append-nil (spellings (N (ab .0))) }
 
 module _ {A B : Type 0} {to : A → B} {from : B → A} {there : (a : A) → from (to a) ≡ a} {back : (b : B) → to (from b) ≡ b} {f : Format A} where
-  view-keeps : Keeps f → Keeps (view to from there back f)
-  unfolding gather marks
-  view-keeps h = record { are = λ b i v. h .are (from b) i v }
+  view-named : {N : A → List Token} → Named f N → Named (view to from there back f) (λ b. N (from b))
+  unfolding gather
+  view-named h = record { are = λ b. h .are (from b) }
 
-items-names : {A : Type 0} (N : List A → A → List Bytes) (C : List A → A → List ℕ) (U : List A → A → List Fraction) (M : List A → A → ℕ → ℕ → List Mark)
-    → ((before : List A) (x : A) (i v : ℕ) → N before x ≡ markNames (M before x i v)) → (before xs : List A) (i v : ℕ)
-    → gatherItems N before xs ≡ markNames (marksItems C U M before xs i v)
-items-names N C U M h before [] i v = refl
-items-names N C U M h before (x ∷ xs) i v =
-    ap₂ _++_ (h before x i v) (items-names N C U M h (before ++ (x ∷ [])) xs (i + length (C before x)) (v + length (U before x)))
-    ∙ sym (map-append _ (M before x i v) _)
+-- items that have one name each, or none
+items-one : {A : Type 0} (F : List A → A → List Bytes) (nameOf : A → Token) → ((before : List A) (x : A) → F before x ≡ nameOf x .bytes ∷ []) → (before xs : List A)
+    → gatherItems F before xs ≡ spellings (map nameOf xs)
+items-one F nameOf h before [] = refl
+items-one F nameOf h before (x ∷ xs) = ap₂ _++_ (h before x) (items-one F nameOf h (before ++ (x ∷ [])) xs)
+
+items-none : {A : Type 0} (F : List A → A → List Bytes) → ((before : List A) (x : A) → F before x ≡ []) → (before xs : List A) → gatherItems F before xs ≡ []
+items-none F h before [] = refl
+items-none F h before (x ∷ xs) = ap₂ _++_ (h before x) (items-none F h (before ++ (x ∷ [])) xs)
 
 module _ {A : Type 0} {n : ℕ} {g : List A → Format A} where
-  items-keep : ((before : List A) → Keeps (g before)) → Keeps (items n g)
-  unfolding gather marks
-  items-keep h =
-      record {
-        are = λ xs i v.
-            items-names (λ before x. names (g before) x) (λ before x. cells (g before) x) (λ before x. values (g before) x) (λ before x j w. marks (g before) x j w)
-            (λ before x j w. h before .are x j w) [] xs i v;
-      }
+  items-named : (nameOf : A → Token) → ((before : List A) → Named (g before) (λ x. nameOf x ∷ [])) → Named (items n g) (λ xs. map nameOf xs)
+  unfolding gather
+  items-named nameOf h = record { are = λ xs. items-one (λ before x. names (g before) x) nameOf (λ before x. h before .are x) [] xs }
+
+  items-nameless : ((before : List A) → Named (g before) (λ x. [])) → Named (items n g) (λ xs. [])
+  unfolding gather
+  items-nameless h = record { are = λ xs. items-none (λ before x. names (g before) x) (λ before x. h before .are x) [] xs }
 
 -- ---- part by part
 
-pairs-keep : (bound k : ℕ) → Keeps (items k (pair bound))
-pairs-keep bound k = items-keep (λ before. view-keeps (then-keeps (one-keeps tt) (λ i. one-keeps tt)))
+pairs-nameless : (bound k : ℕ) → Named (items k (pair bound)) (λ ps. [])
+pairs-nameless bound k = items-nameless (λ before. view-named (then-nameless (one-nameless tt) (λ i. one-nameless tt)))
 
-counted-keep : (bound : ℕ) → Keeps (pairList bound)
-counted-keep bound = then-keeps (one-keeps tt) (λ k. pairs-keep bound k)
+counted-nameless : (bound : ℕ) → Named (pairList bound) (λ ps. [])
+counted-nameless bound = then-nameless (one-nameless tt) (λ k. pairs-nameless bound k)
 
-terms-keep : (n : ℕ) → Keeps (termList n)
-terms-keep n = view-keeps (counted-keep n)
+listed-nameless : (n : ℕ) (k : Or ℕ) → Named (listedTerms n k) (λ t. [])
+listed-nameless n instead = nothing-nameless
+listed-nameless n (given k) = pairs-nameless n k
 
-listed-keep : (n : ℕ) (k : Or ℕ) → Keeps (listedTerms n k)
-listed-keep n instead = nothing-keeps
-listed-keep n (given k) = pairs-keep n k
+side-nameless : (n : ℕ) → Named (side n) (λ s. [])
+side-nameless n = view-named (then-nameless (one-nameless tt) (λ k. listed-nameless n k))
 
-side-keeps : (n : ℕ) → Keeps (side n)
-side-keeps n = view-keeps (then-keeps (one-keeps tt) (λ k. listed-keep n k))
+row-is-named : (n own : ℕ) (used : List Bytes) → Named (row n own used) (λ r. r .name ∷ [])
+row-is-named n own used = view-named (first-named (row-named own used) (λ t. then-nameless (one-nameless tt) (λ s. then-nameless (one-nameless tt) (λ b. side-nameless n))))
 
-row-keeps : (n own : ℕ) (used : List Bytes) → Keeps (row n own used)
-row-keeps n own used = view-keeps (then-keeps (one-keeps tt) (λ t. then-keeps (one-keeps tt) (λ s. then-keeps (one-keeps tt) (λ b. side-keeps n))))
+detail-nameless : (own : ℕ) (w : ReasonWord) → Named (detail own w) (λ d. [])
+detail-nameless own asmWord = nothing-nameless
+detail-nameless own linWord = view-named (counted-nameless own)
+detail-nameless own rndWord = view-named (counted-nameless own)
+detail-nameless own unsWord = view-named (then-nameless (one-nameless tt) (λ a. then-nameless (one-nameless tt) (λ b. then-nameless (one-nameless tt) (λ c. one-nameless tt))))
+detail-nameless own solWord = nothing-nameless
 
-detail-keeps : (own : ℕ) (w : ReasonWord) → Keeps (detail own w)
-detail-keeps own asmWord = nothing-keeps
-detail-keeps own linWord = view-keeps (counted-keep own)
-detail-keeps own rndWord = view-keeps (counted-keep own)
-detail-keeps own unsWord = view-keeps (then-keeps (one-keeps tt) (λ a. then-keeps (one-keeps tt) (λ b. then-keeps (one-keeps tt) (λ c. one-keeps tt))))
-detail-keeps own solWord = nothing-keeps
+derivation-named : (n m : ℕ) (used : List Bytes) (d : ℕ) (before : List Derivation) → Named (derivation n m used d before) (λ d. d .row .name ∷ [])
+derivation-named n m used d before =
+    view-named (first-named (row-is-named n _ _)
+    (λ r. then-nameless (one-nameless tt)
+    (λ o. then-nameless (view-named (then-nameless (one-nameless tt) (detail-nameless _)))
+    (λ q. then-nameless (one-nameless tt) (λ c. view-named (one-nameless tt))))))
 
-derivation-keeps : (n m : ℕ) (used : List Bytes) (d : ℕ) (before : List Derivation) → Keeps (derivation n m used d before)
-derivation-keeps n m used d before =
-    view-keeps (then-keeps (row-keeps n _ _)
-    (λ r. then-keeps (one-keeps tt)
-    (λ o. then-keeps (view-keeps (then-keeps (one-keeps tt) (detail-keeps _))) (λ q. then-keeps (one-keeps tt) (λ c. view-keeps (one-keeps tt))))))
+ends-nameless : (w : ClaimWord) → Named (ends w) (λ e. [])
+ends-nameless infeasWord = nothing-nameless
+ends-nameless rangeWord = then-nameless (view-named (one-nameless tt)) (λ lower. view-named (one-nameless tt))
 
-solution-keeps : (n : ℕ) (before : List Solution) → Keeps (solution n before)
-solution-keeps n before = view-keeps (then-keeps (one-keeps tt) (λ t. terms-keep n))
+section-named : {A : Type 0} (w : Bytes) {f : Format A} {N : A → List Token} → Named f N → Named (section w f) N
+unfolding gather
+section-named w h = record { are = h .are }
 
-ends-keep : (w : ClaimWord) → Keeps (ends w)
-ends-keep infeasWord = nothing-keeps
-ends-keep rangeWord = then-keeps (view-keeps (one-keeps tt)) (λ lower. view-keeps (one-keeps tt))
+variables-named : Named variables (λ v. v .names)
+variables-named = record { are = λ v. named .are v ∙ ap spellings (map-id (v .names)) }
+  where
+    named : Named variables (λ v. map (λ t. t) (v .names))
+    named = section-named _ (view-named (first-nameless (one-nameless tt) (λ n. items-named (λ t. t) (λ before. variable-named))))
 
-relation-keeps : Keeps relation
-relation-keeps = view-keeps (then-keeps (one-keeps tt) (λ p. view-keeps (then-keeps (one-keeps tt) ends-keep)))
+integers-nameless : (n : ℕ) → Named (integers n) (λ i. [])
+integers-nameless n = section-named _ (view-named (then-nameless (one-nameless tt) (λ k. items-nameless (λ before. one-nameless tt))))
 
-section-keeps : {A : Type 0} (w : Bytes) {f : Format A} → Keeps f → Keeps (section w f)
-section-keeps w h = view-keeps (then-keeps (one-keeps tt) (λ u. h))
+objective-nameless : (n : ℕ) → Named (objectiveSection n) (λ o. [])
+objective-nameless n = section-named _ (view-named (then-nameless (one-nameless tt) (λ c. view-named (counted-nameless n))))
 
-integers-keep : (n : ℕ) → Keeps (integers n)
-integers-keep n = section-keeps _ (view-keeps (then-keeps (one-keeps tt) (λ k. items-keep (λ before. one-keeps tt))))
+constraints-named : (n : ℕ) → Named (constraints n) (λ c. rowTokens (c .rows))
+constraints-named n =
+    section-named _
+    (view-named (first-nameless (one-nameless tt)
+    (λ m. first-nameless (one-nameless tt) (λ b. items-named (λ r. r .name) (λ before. row-is-named n _ _)))))
 
-objective-keeps : (n : ℕ) → Keeps (objectiveSection n)
-objective-keeps n = section-keeps _ (view-keeps (then-keeps (one-keeps tt) (λ c. terms-keep n)))
+relation-nameless : Named relation (λ r. [])
+relation-nameless = view-named (then-nameless (one-nameless tt) (λ p. view-named (then-nameless (one-nameless tt) ends-nameless)))
 
-constraints-keep : (n : ℕ) → Keeps (constraints n)
-constraints-keep n = section-keeps _ (view-keeps (then-keeps (one-keeps tt) (λ m. then-keeps (one-keeps tt) (λ b. items-keep (λ before. row-keeps n _ _)))))
+solutions-named : (n : ℕ) → Named (solutionSection n) (λ s. solutionTokens (s .solutions))
+solutions-named n =
+    section-named _
+    (view-named (first-nameless (one-nameless tt)
+    (λ s. items-named (λ x. x .name) (λ before. view-named (first-named (row-named _ []) (λ t. view-named (counted-nameless n)))))))
 
-solutions-keep : (n : ℕ) → Keeps (solutionSection n)
-solutions-keep n = section-keeps _ (view-keeps (then-keeps (one-keeps tt) (λ s. items-keep (solution-keeps n))))
+derivations-named : (n : ℕ) (c : Constraints) → Named (derivationSection n c) (λ d. derivationTokens (d .derivations))
+derivations-named n c =
+    view-named (first-nameless (one-nameless tt)
+    (λ p. first-nameless (one-nameless tt) (λ d. items-named (λ x. x .row .name) (λ before. derivation-named n (c .count) (rowNames (c .rows)) d before))))
 
-derivations-keep : (n : ℕ) (c : Constraints) → Keeps (derivationSection n c)
-derivations-keep n c = view-keeps (then-keeps (one-keeps tt) (λ p. then-keeps (one-keeps tt) (λ d. items-keep (derivation-keeps n (c .count) (rowNames (c .rows)) d))))
+certificate-named : Named certificate nameTokens
+certificate-named =
+    view-named
+    (first-nameless (section-named _ (one-nameless tt))
+    (λ u. then-named variables-named
+    (λ v. first-nameless (integers-nameless (v .count))
+    (λ i. first-nameless (objective-nameless (v .count))
+    (λ o. then-named (constraints-named (v .count))
+    (λ c. first-nameless relation-nameless
+    (λ r. then-named (solutions-named (v .count)) (λ s. derivations-named (v .count) c))))))))
 
--- ---- the whole
+pub tree-names : (tree : Tree) → names certificate tree ≡ spellings (nameTokens tree)
+tree-names tree = certificate-named .are tree
 
--- the variables' names, one by one, and no marks of theirs
-variable-names : (before ts : List Token) → gatherItems (λ b x. symbolNames name x) before ts ≡ map (λ (t : Token). t .bytes) ts
-variable-names before [] = refl
-variable-names before (t ∷ ts) = ap (λ (l : List Bytes). t .bytes ∷ l) (variable-names (before ++ (t ∷ [])) ts)
+-- ---- the variables' names
 
-variable-marks : (C : List Token → Token → List ℕ) (U : List Token → Token → List Fraction) (before ts : List Token) (i v : ℕ)
-    → marksItems C U (λ b x j w. symbolMarks name x j w) before ts i v ≡ []
-variable-marks C U before [] i v = refl
-variable-marks C U before (t ∷ ts) i v = variable-marks C U (before ++ (t ∷ [])) ts (i + length (C before t)) (v + length (U before t))
+-- items that are tokens themselves
+tokens-among : (P : List Token → Token → List Token → Type 0) → ((before : List Token) (t : Token) (us : List Token) → P before t us → List·Memᴰ t us)
+    → (before xs ts : List Token) → ItemsSpelled P before xs ts → Each (λ (t : Token). List·Memᴰ t ts) xs
+tokens-among P f before [] ts h = each-none
+tokens-among P f before (x ∷ xs) ts h =
+    rw (h .tokens)
+    (each-append (each-one (Memᴰ·append-left (h .back) (f before x (h .front) (h .first))))
+    (each-map (λ t m. Memᴰ·append-right (h .front) m) (tokens-among P f (before ++ (x ∷ [])) xs (h .back) (h .second))))
 
--- the sections after VAR
-abbrev Rest : Type 0
-Rest = (i : Integers) × ((o : Objective) × ((c : Constraints) × ((r : Relation) × ((s : Solutions) × Derivations))))
+-- tokens of the second part, and of the first, are tokens of the whole
+module _ {ts : List Token} {t : Token} (front back : List Token) (e : ts ≡ front ++ back) where
+  in-back : List·Memᴰ t back → List·Memᴰ t ts
+  in-back m = rw e (Memᴰ·append-right front m)
 
-abbrev afterVariables : ℕ → Format Rest
-afterVariables n =
-    then (integers n) (λ i. then (objectiveSection n) (λ o. then (constraints n) (λ c. then relation (λ r. then (solutionSection n) (λ s. derivationSection n c)))))
+  in-front : List·Memᴰ t front → List·Memᴰ t ts
+  in-front m = rw e (Memᴰ·append-left back m)
 
-rest-keeps : (n : ℕ) → Keeps (afterVariables n)
-rest-keeps n =
-    then-keeps (integers-keep n)
-    (λ i. then-keeps (objective-keeps n) (λ o. then-keeps (constraints-keep n) (λ c. then-keeps relation-keeps (λ r. then-keeps (solutions-keep n) (λ s. derivations-keep n c)))))
-
-pub tree-names : (tree : Tree) → names certificate tree ≡ map (λ (t : Token). t .bytes) (tree .variables .names) ++ markNames (marks certificate tree 0 0)
-unfolding gather marks
-tree-names tree =
-    let own = map (λ (t : Token). t .bytes) (tree .variables .names) in
-    let after : Rest = (tree .integers, (tree .objective, (tree .constraints, (tree .relation, (tree .solutions, tree .derivations))))) in
-    let i = 0 + length (cells version tt) + length (cells variables (tree .variables)) in
-    let v = 0 + length (values version tt) + length (values variables (tree .variables)) in
-    ap₂ _++_ (variable-names [] (tree .variables .names)) (rest-keeps (tree .variables .count) .are after i v)
-    ∙ ap (λ (l : List Mark). own ++ markNames (l ++ marks (afterVariables (tree .variables .count)) after i v)) (sym (variable-marks _ _ [] (tree .variables .names) _ _))
+pub variables-stand : {text : Bytes} {tree : Tree} → SpellsTree text tree → Each (StandsIn text) (tree .variables .names)
+variables-stand {text} {tree} s =
+    let p = s .spelled in
+    let v = p .second .first in
+    let names = v .second .second .each in
+    let among = tokens-among (λ before x us. Spells (symbol name) x us) (λ before x us o. rw (o .alone) (List·Memᴰ·head (sym (o .spelled .0)))) [] (tree .variables .names) (v .second .back) names in
+    let q = p .second in
+    let w = v .second in
+    each-map
+    (λ t m.
+        text-tokens-stand (s .has-tokens) .holds t
+        (in-back (p .front) (p .back) (p .tokens)
+        (in-front (q .front) (q .back) (q .tokens)
+        (in-back (v .front) (v .back) (v .tokens)
+        (in-back (w .front) (w .back) (w .tokens) m)))))
+    among

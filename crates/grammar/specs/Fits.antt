@@ -28,7 +28,8 @@ use Rattle.grammar.specs.Texts.{SpellsTree}
 use Rattle.grammar.specs.Tables.{byTurns, rowOf}
 use Rattle.grammar.specs.Contents.{tree-rows}
 use Rattle.grammar.specs.Ranges.{tree-in-range, rows-below}
-use Rattle.grammar.specs.Names.{Each, each-none, each-one, each-append, StandsIn, text-tokens-stand, marks-among}
+use Rattle.grammar.specs.Names.{StandsIn, text-tokens-stand, marks-among}
+use Rattle.grammar.specs.Lists.{Each, each-none, each-one, each-append}
 
 -- ---- what is said
 
@@ -98,20 +99,20 @@ symbol-values name a t h = each-none
 symbol-values (rowName row used) a t h = each-none
 symbol-values (value cells) f t h = each-one (spelled-fraction f (t .bytes) h)
 symbol-values (or w cell s) instead t h = each-none
-symbol-values (or w cell s) (given a) t h = symbol-values s a t (h .1)
+symbol-values (or w cell s) (given a) t h = symbol-values s a t h
 
 items-values : {A : Type 0} (P : List A → A → List Token → Type 0) (U : List A → A → List Fraction)
     → ((before : List A) (x : A) (us : List Token) → P before x us → Each IsFraction (U before x))
     → (before xs : List A) (ts : List Token) → ItemsSpelled P before xs ts → Each IsFraction (gatherItems U before xs)
 items-values P U one before [] ts h = each-none
-items-values P U one before (x ∷ xs) ts h = each-append (one before x (h .0) (h .3)) (items-values P U one (before ++ (x ∷ [])) xs (h .1) (h .4))
+items-values P U one before (x ∷ xs) ts h = each-append (one before x (h .front) (h .first)) (items-values P U one (before ++ (x ∷ [])) xs (h .back) (h .second))
 
 pub values-are : {A : Type 0} (f : Format A) (a : A) (ts : List Token) → Spells f a ts → Each IsFraction (values f a)
 unfolding gather
-values-are (symbol s) a ts h = symbol-values s a (h .0) (h .2)
-values-are (then f g) ab ts h = each-append (values-are f (ab .0) (h .0) (h .3)) (values-are (g (ab .0)) (ab .1) (h .1) (h .4))
+values-are (symbol s) a ts h = symbol-values s a (h .token) (h .spelled)
+values-are (then f g) ab ts h = each-append (values-are f (ab .0) (h .front) (h .first)) (values-are (g (ab .0)) (ab .1) (h .back) (h .second))
 values-are (items n g) xs ts h =
-    items-values (λ before x vs. Spells (g before) x vs) (λ before x. values (g before) x) (λ before x us p. values-are (g before) x us p) [] xs ts (h .1)
+    items-values (λ before x vs. Spells (g before) x vs) (λ before x. values (g before) x) (λ before x us p. values-are (g before) x us p) [] xs ts (h .each)
 values-are nothing a ts h = each-none
 values-are (view to from p q f) b ts h = values-are f (from b) ts h
 
@@ -166,7 +167,7 @@ module _ {A B : Type 0} {to : A → B} {from : B → A} {there : (a : A) → fro
 module _ {A : Type 0} {B : A → Type 0} {f : Format A} {g : (a : A) → Format (B a)} {s o s′ o′ : ℕ} where
   then-narrow : Narrow s o f → ((a : A) (us : List Token) → Spells f a us → Narrow s′ o′ (g a)) → Narrow (s + s′) (o + o′) (then f g)
   unfolding gather
-  then-narrow h k = record { takes = λ ab ts p. takes-both (p .2) (h .takes (ab .0) (p .0) (p .3)) (k (ab .0) (p .0) (p .3) .takes (ab .1) (p .1) (p .4)) }
+  then-narrow h k = record { takes = λ ab ts p. takes-both (p .tokens) (h .takes (ab .0) (p .front) (p .first)) (k (ab .0) (p .front) (p .first) .takes (ab .1) (p .back) (p .second)) }
 
 -- each item may depend on those before it, of which there are fewer than n
 module _ {A : Type 0} {n : ℕ} {g : List A → Format A} (each : (before : List A) → length before < n → Narrow 0 0 (g before)) where
@@ -174,12 +175,12 @@ module _ {A : Type 0} {n : ℕ} {g : List A → Format A} (each : (before : List
       → Takes 0 0 ts (gatherItems (λ before x. cells (g before) x) before xs) (gatherItems (λ before x. values (g before) x) before xs)
   items-take before [] ts e p = rw p takes-none
   items-take before (x ∷ xs) ts e p =
-      takes-both (p .2) (each before (omega arith) .takes x (p .0) (p .3))
-      (items-take (before ++ (x ∷ [])) xs (p .1) (omega (arith, length-append before (x ∷ []))) (p .4))
+      takes-both (p .tokens) (each before (omega arith) .takes x (p .front) (p .first))
+      (items-take (before ++ (x ∷ [])) xs (p .back) (omega (arith, length-append before (x ∷ []))) (p .second))
 
   items-narrow : Narrow 0 0 (items n g)
   unfolding gather
-  items-narrow = record { takes = λ xs ts p. items-take [] xs ts (omega (arith, p .0)) (p .1) }
+  items-narrow = record { takes = λ xs ts p. items-take [] xs ts (omega (arith, p .counted)) (p .each) }
 
 -- ---- one token
 
@@ -233,11 +234,11 @@ symbol-takes (rowName row used) f a t h = takes-cells t (omega arith) each-none
 symbol-takes (value cells) f a t h =
     record { cells-few = f .0; values-few = omega arith; cells-narrow = f .1 }
 symbol-takes (or w cell y) f instead t h = takes-as (extra y) (missing y) (omega (arith, extra-most y)) (takes-cells t (omega arith) (each-one (f .0)))
-symbol-takes (or w cell y) f (given a) t h = symbol-takes y (f .1) a t (h .1)
+symbol-takes (or w cell y) f (given a) t h = symbol-takes y (f .1) a t h
 
 symbol-narrow : {A : Type 0} (y : Symbol A) → SymbolFits y → Narrow (extra y) (missing y) (symbol y)
 unfolding gather
-symbol-narrow y f = record { takes = λ a ts p. rw (p .1) (symbol-takes y f a (p .0) (p .2)) }
+symbol-narrow y f = record { takes = λ a ts p. rw (p .alone) (symbol-takes y f a (p .token) (p .spelled)) }
 
 -- ---- the grammar, in 01's order
 
@@ -340,7 +341,7 @@ section-narrow w h = narrow-as 0 0 (omega arith) (view-narrow (then-narrow (symb
 
 -- a count and what it counts
 after-count : {most : ℕ} {B : ℕ → Type 0} {g : (n : ℕ) → Format (B n)} → most ≤ 65535 → ((n : ℕ) → n ≤ most → Narrow 0 0 (g n)) → Narrow 0 0 (then (countTo most) g)
-after-count le h = narrow-as 0 0 (omega arith) (then-narrow (number-narrow (omega arith)) (λ n us p. h n (omega (arith, p .2 .in-range))))
+after-count le h = narrow-as 0 0 (omega arith) (then-narrow (number-narrow (omega arith)) (λ n us p. h n (omega (arith, p .spelled .in-range))))
 
 version-narrow : Narrow 0 0 version
 version-narrow = section-narrow _ (narrow-as 0 0 (omega arith) (symbol-narrow (word _) tt))
@@ -383,12 +384,12 @@ certificate-narrow =
     view-narrow (then-narrow version-narrow
     (λ u us p. then-narrow variables-narrow
     (λ v vs q.
-    let n : v .count ≤ mostVariables = omega (arith, q .4 .3 .2 .in-range) in
+    let n : v .count ≤ mostVariables = omega (arith, q .second .first .spelled .in-range) in
     then-narrow (integers-narrow (v .count) n)
     (λ i ws r. then-narrow (objective-narrow (v .count) n)
     (λ o xs x. then-narrow (constraints-narrow (v .count) n)
     (λ c ys y.
-    let m : c .count ≤ mostRows = omega (arith, y .4 .3 .2 .in-range) in
+    let m : c .count ≤ mostRows = omega (arith, y .second .first .spelled .in-range) in
     then-narrow relation-narrow (λ e zs z. then-narrow (solutions-narrow (v .count) n) (λ s ts t. derivations-narrow (v .count) c n m))))))))
 
 -- ---- the whole

@@ -4,10 +4,13 @@
 pub mod Refusals
 pub mod Tree
 pub mod Format
+pub mod Lists
 pub mod Spelling
 pub mod Certificate
 pub mod Reading
+pub mod SymbolAgreement
 pub mod Agreement
+pub mod Unambiguous
 pub mod Layout
 pub mod Texts
 pub mod Tables

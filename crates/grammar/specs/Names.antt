@@ -2,8 +2,7 @@
 -- length in the text" (document 01, "Tables lent by the caller").
 -- Assumes nothing.
 use mathlib.Core.Path.{_≡_, refl, sym, _∙_, ap, subst}
-use mathlib.Core.List.{List, [], _∷_, _++_, List·Memᴰ, List·Memᴰ·head, List·Memᴰ·not-nil, List·Memᴰ·append-cases, List·Memᴰ·eq-of-singleton, Memᴰ·append-left, Memᴰ·append-right}
-use mathlib.Core.Logic.{_⊎_, inl, inr}
+use mathlib.Core.List.{List, [], _∷_, _++_, List·Memᴰ, List·Memᴰ·head, Memᴰ·append-left, Memᴰ·append-right}
 use Prim.Native.Nat.{ℕ, _+_, _-_, _≤_}
 use native.Mathlib.Omega.{arith}
 use lib.ListN.{length, drop, length-append, length-drop}
@@ -14,30 +13,11 @@ use Rattle.text.specs.Tokens.{Token, FirstToken, HasTokens, TextHasTokens}
 use Rattle.arithmetic.specs.declared.Fraction.{Fraction}
 use Rattle.grammar.specs.Tree.{Tree}
 use Rattle.grammar.specs.Format.{instead, given, Symbol, word, placed, choice, number, name, rowName, value, or, Format, symbol, then, items, nothing, view}
+use Rattle.grammar.specs.Lists.{Each, each-none, each-one, each-append, each-map}
 use Rattle.grammar.specs.Spelling.{SymbolSpelled, ItemsSpelled, Spells}
 use Rattle.grammar.specs.Certificate.{certificate}
 use Rattle.grammar.specs.Layout.{Mark, symbolMarks, gatherItems, gather, cells, values, marksItems, marks}
 use Rattle.grammar.specs.Texts.{SpellsTree}
-
--- P holds of each element of a list
-pub record Each {A : Type 0} (P : A → Type 0) (xs : List A) : Type 0 where
-  pub holds : (x : A) → List·Memᴰ x xs → P x
-
-pub each-none : {A : Type 0} {P : A → Type 0} → Each P []
-each-none = record { holds = λ x m. absurd (List·Memᴰ·not-nil m) }
-
-pub each-one : {A : Type 0} {P : A → Type 0} {y : A} → P y → Each P (y ∷ [])
-each-one {P = P} p = record { holds = λ x m. subst P (sym (List·Memᴰ·eq-of-singleton m)) p }
-
-pub each-append : {A : Type 0} {P : A → Type 0} {xs ys : List A} → Each P xs → Each P ys → Each P (xs ++ ys)
-each-append {A} {P} {xs} {ys} h k = record { holds = λ x m. either x (List·Memᴰ·append-cases xs m) }
-  where
-    either : (x : A) → List·Memᴰ x xs ⊎ List·Memᴰ x ys → P x
-    either x (inl m) = h .holds x m
-    either x (inr m) = k .holds x m
-
-pub each-map : {A : Type 0} {P Q : A → Type 0} {xs : List A} → ((x : A) → P x → Q x) → Each P xs → Each Q xs
-each-map f h = record { holds = λ x m. f x (h .holds x m) }
 
 -- ---- tokens
 
@@ -99,7 +79,7 @@ symbol-marks name a t h i v = each-none
 symbol-marks (rowName row used) a t h i v = each-one (record { name-among = List·Memᴰ·head (sym (h .0)); cells-most = omega arith; values-most = omega arith })
 symbol-marks (value cells) a t h i v = each-none
 symbol-marks (or w cell s) instead t h i v = each-none
-symbol-marks (or w cell s) (given a) t h i v = symbol-marks s a t (h .1) i v
+symbol-marks (or w cell s) (given a) t h i v = symbol-marks s a t h i v
 
 -- one run of tokens, and then another
 two-marks : {ts us vs : List Token} {i j k v w x : ℕ} {l r : List Mark} → ts ≡ us ++ vs → Each (MarkAmong us i v) l → Each (MarkAmong vs j w) r
@@ -116,8 +96,8 @@ items-marks P C U M one before [] ts h i v = each-none
 items-marks P C U M one before (x ∷ xs) ts h i v =
     let c = length-append (C before x) (gatherItems C (before ++ (x ∷ [])) xs) in
     let u = length-append (U before x) (gatherItems U (before ++ (x ∷ [])) xs) in
-    two-marks (h .2) (one before x (h .0) (h .3) i v)
-    (items-marks P C U M one (before ++ (x ∷ [])) xs (h .1) (h .4) (i + length (C before x)) (v + length (U before x)))
+    two-marks (h .tokens) (one before x (h .front) (h .first) i v)
+    (items-marks P C U M one (before ++ (x ∷ [])) xs (h .back) (h .second) (i + length (C before x)) (v + length (U before x)))
     (omega arith) (omega arith) (omega arith) (omega arith)
 
 -- a mark of what tokens spell has one of these tokens for its name, and the cells and values before it are some of theirs
@@ -125,17 +105,17 @@ pub marks-among : {A : Type 0} (f : Format A) (a : A) (ts : List Token) → Spel
     → Each (MarkAmong ts (i + length (cells f a)) (v + length (values f a))) (marks f a i v)
 unfolding gather marks
 marks-among (symbol s) a ts h i v =
-    rw (h .1)
-    (each-map (among-more (λ t m. m) (omega arith) (omega arith)) (symbol-marks s a (h .0) (h .2) i v))
+    rw (h .alone)
+    (each-map (among-more (λ t m. m) (omega arith) (omega arith)) (symbol-marks s a (h .token) (h .spelled) i v))
 marks-among (then f g) ab ts h i v =
     let c = length-append (cells f (ab .0)) (cells (g (ab .0)) (ab .1)) in
     let u = length-append (values f (ab .0)) (values (g (ab .0)) (ab .1)) in
-    two-marks (h .2) (marks-among f (ab .0) (h .0) (h .3) i v)
-    (marks-among (g (ab .0)) (ab .1) (h .1) (h .4) (i + length (cells f (ab .0))) (v + length (values f (ab .0))))
+    two-marks (h .tokens) (marks-among f (ab .0) (h .front) (h .first) i v)
+    (marks-among (g (ab .0)) (ab .1) (h .back) (h .second) (i + length (cells f (ab .0))) (v + length (values f (ab .0))))
     (omega arith) (omega arith) (omega arith) (omega arith)
 marks-among (items n g) xs ts h i v =
     items-marks (λ before x vs. Spells (g before) x vs) (λ before x. cells (g before) x) (λ before x. values (g before) x) (λ before x j w. marks (g before) x j w)
-    (λ before x us p j w. marks-among (g before) x us p j w) [] xs ts (h .1) i v
+    (λ before x us p j w. marks-among (g before) x us p j w) [] xs ts (h .each) i v
 marks-among nothing a ts h i v = each-none
 marks-among (view to from p q f) b ts h i v = marks-among f (from b) ts h i v
 

@@ -16,12 +16,12 @@ use Rattle.text.specs.Tokens.{Token}
 use Rattle.tables.specs.Limits.{mostVariables, mostRows, mostSolutions, mostAssumptions, mostEntries}
 use Rattle.grammar.specs.Tree.{Integers, Term, TermList, Side, obj, listed, Row, Solution, Multiplier, Reason, asm, lin, rnd, uns, sol, Last, never, index, Derivation, Tree}
 use Rattle.grammar.specs.Format.{items}
-use Rattle.grammar.specs.Spelling.{isAmong, ItemsSpelled, Spells}
+use Rattle.grammar.specs.Spelling.{ItemsSpelled, Spells}
 use Rattle.grammar.specs.Certificate.{newIndexBelow, Pair, pair, pairList, ofTerm, termList, ofMultiplier, side, row, rowNames, reason, last, isAssumption, assumptions, derivation, solution, integers}
-use Rattle.grammar.specs.Agreement.{impossible}
+use Rattle.grammar.specs.SymbolAgreement.{impossible}
 use Rattle.grammar.specs.Texts.{SpellsTree}
 use Rattle.grammar.specs.Contents.{upFrom, treeRows}
-use Rattle.grammar.specs.Names.{Each, each-none, each-one, each-append}
+use Rattle.grammar.specs.Lists.{Each, NoneOf, each-none, each-one, each-append}
 
 -- ---- what is said
 
@@ -93,9 +93,9 @@ pub record TreeInRange (t : Tree) : Type 0 where
 module _ {A : Type 0} (P : List A → A → List Token → Type 0) where
   item-after : (done before : List A) (x : A) (after : List A) (ts : List Token) → ItemsSpelled P done (before ++ (x ∷ after)) ts
       → (us : List Token) × P (done ++ before) x us
-  item-after done [] x after ts h = (h .0, subst (λ (l : List A). P l x (h .0)) (sym (append-nil done)) (h .3))
+  item-after done [] x after ts h = (h .front, subst (λ (l : List A). P l x (h .front)) (sym (append-nil done)) (h .first))
   item-after done (y ∷ before) x after ts h =
-      let r = item-after (done ++ (y ∷ [])) before x after (h .1) (h .4) in
+      let r = item-after (done ++ (y ∷ [])) before x after (h .back) (h .second) in
       (r .0, subst (λ (l : List A). P l x (r .0)) (append-assoc done (y ∷ []) before) (r .1))
 
   -- the same of a list that is spelled whole
@@ -106,25 +106,13 @@ module _ {A : Type 0} (P : List A → A → List Token → Type 0) where
   -- what holds of each item
   each-spelled : {Q : A → Type 0} → ((before : List A) (x : A) (us : List Token) → P before x us → Q x) → (done xs : List A) (ts : List Token) → ItemsSpelled P done xs ts → Each Q xs
   each-spelled f done [] ts h = each-none
-  each-spelled f done (x ∷ xs) ts h = each-append (each-one (f done x (h .0) (h .3))) (each-spelled f (done ++ (x ∷ [])) xs (h .1) (h .4))
-
--- what is not among those used is no element of them
-either-true : (b : Bool) → cond b true true ≡ true
-either-true true = refl
-either-true false = refl
-
-among : {A : Type 0} (eq : A → A → Bool) → ((a : A) → eq a a ≡ true) → (x : A) (ys : List A) → List·Memᴰ x ys → isAmong eq x ys ≡ true
-among eq self x ys (List·Memᴰ·head {x = y} {xs = zs} p) = rw (sym (ap (eq x) p) ∙ self x)
-among eq self x ys (List·Memᴰ·tail {x = y} {xs = zs} m) = rw (among eq self x zs m) (either-true (eq x y))
-
-not-among : {A : Type 0} (eq : A → A → Bool) → ((a : A) → eq a a ≡ true) → (x : A) (ys : List A) → isAmong eq x ys ≡ false → List·Memᴰ x ys → ⊥
-not-among eq self x ys e m = clash e (among eq self x ys m)
+  each-spelled f done (x ∷ xs) ts h = each-append (each-one (f done x (h .front) (h .first))) (each-spelled f (done ++ (x ∷ [])) xs (h .back) (h .second))
 
 -- ---- lists of indices
 
 -- items of which each has an index below the bound, and none of those before it
 items-in-range : {A : Type 0} (P : List A → A → List Token → Type 0) (bound : ℕ) (key : A → ℕ)
-    → ((before : List A) (x : A) (us : List Token) → P before x us → (key x < bound) × (isAmong eqb (key x) (map key before) ≡ false))
+    → ((before : List A) (x : A) (us : List Token) → P before x us → (key x < bound) × NoneOf (key x) (map key before))
     → (k : ℕ) (xs : List A) (ts : List Token) → k ≤ bound → length xs ≡ k → ItemsSpelled P [] xs ts → InRange bound k key xs
 items-in-range P bound key f k xs ts le n h =
     record {
@@ -135,7 +123,7 @@ items-in-range P bound key f k xs ts le n h =
           record {
             once = λ before x after e m.
                 let r = item-spelled P xs ts h before x after e in
-                not-among eqb (λ j. eq-eqb j j refl) (key x) (map key before) (f before x (r .0) (r .1) .1) m;
+                f before x (r .0) (r .1) .1 m;
           };
     }
 
@@ -156,11 +144,11 @@ in-range-map {key = key} f xs h =
 
 pairs-in-range : (bound k : ℕ) (ps : List Pair) (ts : List Token) → k ≤ bound → Spells (items k (pair bound)) ps ts → InRange bound k (λ (p : Pair). p .index) ps
 pairs-in-range bound k ps ts le h =
-    items-in-range (λ before x vs. Spells (pair bound before) x vs) bound (λ (p : Pair). p .index) (λ before x us p. (p .3 .2 .in-range, p .3 .2 .distinct)) k ps ts le (h .0) (h .1)
+    items-in-range (λ before x vs. Spells (pair bound before) x vs) bound (λ (p : Pair). p .index) (λ before x us p. (p .first .spelled .in-range, p .first .spelled .distinct)) k ps ts le (h .counted) (h .each)
 
 counted-in-range : {A : Type 0} (bound count : ℕ) (f : A → Pair) (xs : List A) (ts : List Token) → Spells (pairList bound) (count, map f xs) ts
     → InRange bound count (λ (x : A). f x .index) xs
-counted-in-range bound count f xs ts h = in-range-map f xs (pairs-in-range bound count (map f xs) (h .1) (omega (arith, h .3 .2 .in-range)) (h .4))
+counted-in-range bound count f xs ts h = in-range-map f xs (pairs-in-range bound count (map f xs) (h .back) (omega (arith, h .first .spelled .in-range)) (h .second))
 
 -- ---- part by part
 
@@ -170,28 +158,30 @@ terms-in-range n t ts h = counted-in-range n (t .count) ofTerm (t .terms) ts h
 side-in-range : (n : ℕ) (s : Side) (ts : List Token) → Spells (side n) s ts → SideInRange n s
 side-in-range n obj ts h = tt
 side-in-range n (listed t) ts h =
-    in-range-map ofTerm (t .terms) (pairs-in-range n (t .count) (map ofTerm (t .terms)) (h .1) (omega (arith, h .3 .2 .1 .in-range)) (h .4))
+    in-range-map ofTerm (t .terms) (pairs-in-range n (t .count) (map ofTerm (t .terms)) (h .back) (omega (arith, h .first .spelled .in-range)) (h .second))
 
 reason-in-range : (own assumed : ℕ) (r : Reason) (ts : List Token) → Spells (reason own assumed) r ts → ReasonInRange own r
 reason-in-range own assumed asm ts h = tt
-reason-in-range own assumed (lin m) ts h = counted-in-range own (m .count) ofMultiplier (m .multipliers) (h .1) (h .4)
-reason-in-range own assumed (rnd m) ts h = counted-in-range own (m .count) ofMultiplier (m .multipliers) (h .1) (h .4)
+reason-in-range own assumed (lin m) ts h = counted-in-range own (m .count) ofMultiplier (m .multipliers) (h .back) (h .second)
+reason-in-range own assumed (rnd m) ts h = counted-in-range own (m .count) ofMultiplier (m .multipliers) (h .back) (h .second)
 reason-in-range own assumed (uns u) ts h =
-    let p = h .4 in
-    (p .3 .2 .in-range, p .4 .3 .2 .in-range, p .4 .4 .3 .2 .in-range, p .4 .4 .4 .2 .in-range)
+    let p = h .second in
+    let q = p .second in
+    let r = q .second in
+    (p .first .spelled .in-range, q .first .spelled .in-range, r .first .spelled .in-range, r .second .spelled .in-range)
 reason-in-range own assumed sol ts h = tt
 
 last-in-range : (rows : ℕ) (l : Last) (ts : List Token) → Spells (last rows) l ts → LastInRange rows l
 last-in-range rows never ts h = tt
-last-in-range rows (index i) ts h = h .2 .1 .in-range
+last-in-range rows (index i) ts h = h .spelled .in-range
 
 derivation-in-range : (n m : ℕ) (used : List Bytes) (d : ℕ) (before : List Derivation) (x : Derivation) (ts : List Token) → Spells (derivation n m used d before) x ts
     → DerivationInRange n (m + length before) (m + d) x
 derivation-in-range n m used d before x ts h =
     record {
-      side = side-in-range n (x .row .side) _ (h .3 .4 .4 .4);
-      reason = reason-in-range (m + length before) (assumptions before) (x .reason) _ (h .4 .4 .3);
-      last = last-in-range (m + d) (x .last) _ (h .4 .4 .4 .4);
+      side = side-in-range n (x .row .side) _ (h .first .second .second .second);
+      reason = reason-in-range (m + length before) (assumptions before) (x .reason) _ (h .second .second .first);
+      last = last-in-range (m + d) (x .last) _ (h .second .second .second .second);
     }
 
 -- ---- "The 65th word `asm` is 5"
@@ -210,7 +200,7 @@ assumptions-last (d ∷ before) x =
     ∙ one-more (isAssumption (d .reason)) (isAssumption (x .reason)) (assumptions before)
 
 one-assumed : (own assumed : ℕ) (r : Reason) (ts : List Token) → assumed ≤ mostAssumptions → Spells (reason own assumed) r ts → cond (isAssumption r) (suc assumed) assumed ≤ mostAssumptions
-one-assumed own assumed asm ts le h = leb-false mostAssumptions assumed (h .3 .2 .1)
+one-assumed own assumed asm ts le h = leb-false mostAssumptions assumed (h .first .spelled .1)
 one-assumed own assumed (lin m) ts le h = le
 one-assumed own assumed (rnd m) ts le h = le
 one-assumed own assumed (uns u) ts le h = le
@@ -221,7 +211,7 @@ assumed-most : (n m : ℕ) (used : List Bytes) (d : ℕ) (done xs : List Derivat
 assumed-most n m used d done [] ts le h = rw (append-nil done) le
 assumed-most n m used d done (x ∷ xs) ts le h =
     rw (← append-assoc done (x ∷ []) xs)
-    (assumed-most n m used d (done ++ (x ∷ [])) xs (h .1) (rw (assumptions-last done x) (one-assumed (m + length done) (assumptions done) (x .reason) _ le (h .3 .4 .4 .3))) (h .4))
+    (assumed-most n m used d (done ++ (x ∷ [])) xs (h .back) (rw (assumptions-last done x) (one-assumed (m + length done) (assumptions done) (x .reason) _ le (h .first .second .second .first))) (h .second))
 
 -- ---- "Constraints, given and derived, have distinct names"
 
@@ -265,15 +255,14 @@ module _ (n m d : ℕ) (given : List Row) (derived : List Derivation) (us vs : L
   given-once : (before : List Row) (r : Row) (after : List Row) → given ≡ before ++ (r ∷ after) → List·Memᴰ (nameOf r) (map nameOf before) → ⊥
   given-once before r after e k =
       let s = item-spelled (λ before x ts. Spells (row n (length before) (rowNames before)) x ts) given us g before r after e in
-      not-among same same-refl (nameOf r) (rowNames before) (s .1 .3 .2 .2) k
+      s .1 .first .spelled .2 k
 
   -- of a derived row
   derived-once : (before : List Derivation) (x : Derivation) (after : List Derivation) → derived ≡ before ++ (x ∷ after)
       → List·Memᴰ (nameOf (x .row)) (map nameOf (given ++ map rowIn before)) → ⊥
   derived-once before x after e k =
       let s = item-spelled (λ before x ts. Spells (derivation n m (rowNames given) d before) x ts) derived vs h before x after e in
-      not-among same same-refl (nameOf (x .row)) (rowNames given ++ map (λ (y : Derivation). y .row .name .bytes) before) (s .1 .3 .3 .2 .2)
-      (subst (List·Memᴰ (nameOf (x .row))) (names-of given before) k)
+      s .1 .first .first .spelled .2 (subst (List·Memᴰ (nameOf (x .row))) (names-of given before) k)
 
   names-once : Distinct nameOf (given ++ map rowIn derived)
   names-once = record { once = λ before r after e k. go before r after k (cut-append given (map rowIn derived) before r after e) }
@@ -291,8 +280,8 @@ module _ (n m d : ℕ) (given : List Row) (derived : List Derivation) (us vs : L
 integers-in-range : (n : ℕ) (i : Integers) (ts : List Token) → Spells (integers n) i ts → InRange n (i .count) (λ (j : ℕ). j) (i .indices)
 integers-in-range n i ts h =
     items-in-range (λ before x us. Spells (newIndexBelow n before) x us) n (λ (j : ℕ). j)
-    (λ before x us p. (p .2 .in-range, rw (map-id before) (p .2 .distinct)))
-    (i .count) (i .indices) _ (omega (arith, h .4 .3 .2 .in-range)) (h .4 .4 .0) (h .4 .4 .1)
+    (λ before x us p. (p .spelled .in-range, rw (map-id before) (p .spelled .distinct)))
+    (i .count) (i .indices) _ (omega (arith, h .second .first .spelled .in-range)) (h .second .second .counted) (h .second .second .each)
 
 -- a tree that is spelled is in range
 pub tree-in-range : {text : Bytes} {t : Tree} → SpellsTree text t → TreeInRange t
@@ -301,36 +290,38 @@ tree-in-range {text} {t} spelled =
     let m = t .constraints .count in
     let names = rowNames (t .constraints .rows) in
     let k = t .derivations .count in
-    let p = spelled .spelled in
-    let v = p .4 .3 in
-    let i = p .4 .4 .3 in
-    let o = p .4 .4 .4 .3 in
-    let c = p .4 .4 .4 .4 .3 in
-    let s = p .4 .4 .4 .4 .4 .4 .3 in
-    let d = p .4 .4 .4 .4 .4 .4 .4 in
+    let p = spelled .spelled .second in
+    let q = p .second in
+    let r = q .second .second in
+    let v = p .first .second in
+    let o = q .second .first .second in
+    let c = r .first .second in
+    let s = r .second .second .first .second in
+    let d = r .second .second .second .second in
     record {
-      variables-most = omega (arith, v .4 .3 .2 .in-range);
-      variables-counted = v .4 .4 .0;
-      integers = integers-in-range n (t .integers) (p .4 .4 .0) i;
-      objective = terms-in-range n (t .objective .terms) (o .4 .1) (o .4 .4);
-      rows-most = omega (arith, c .4 .3 .2 .in-range);
-      bounds-most = omega (arith, c .4 .4 .3 .2 .in-range);
-      rows-counted = c .4 .4 .4 .0;
+      variables-most = omega (arith, v .first .spelled .in-range);
+      variables-counted = v .second .counted;
+      integers = integers-in-range n (t .integers) (q .front) (q .first);
+      objective = terms-in-range n (t .objective .terms) (o .back) (o .second);
+      rows-most = omega (arith, c .first .spelled .in-range);
+      bounds-most = omega (arith, c .second .first .spelled .in-range);
+      rows-counted = c .second .second .counted;
       sides =
-          each-spelled (λ before x us. Spells (row n (length before) (rowNames before)) x us) (λ before x us q. side-in-range n (x .side) (q .4 .4 .1) (q .4 .4 .4)) []
-          (t .constraints .rows) (c .4 .4 .1) (c .4 .4 .4 .1);
-      solutions-most = omega (arith, s .4 .3 .2 .in-range);
-      solutions-counted = s .4 .4 .0;
+          each-spelled (λ before x us. Spells (row n (length before) (rowNames before)) x us)
+          (λ before x us q. side-in-range n (x .side) (q .second .second .back) (q .second .second .second)) []
+          (t .constraints .rows) (c .second .back) (c .second .second .each);
+      solutions-most = omega (arith, s .first .spelled .in-range);
+      solutions-counted = s .second .counted;
       solutions =
-          each-spelled (λ before x us. Spells (solution n before) x us) (λ before x us q. terms-in-range n (x .values) (q .1) (q .4)) []
-          (t .solutions .solutions) (s .4 .1) (s .4 .4 .1);
-      derivations-most = omega (arith, d .4 .3 .2 .in-range, c .4 .3 .2 .in-range);
-      derivations-counted = d .4 .4 .0;
+          each-spelled (λ before x us. Spells (solution n before) x us) (λ before x us q. terms-in-range n (x .values) (q .back) (q .second)) []
+          (t .solutions .solutions) (s .back) (s .second .each);
+      derivations-most = omega (arith, d .first .spelled .in-range, c .first .spelled .in-range);
+      derivations-counted = d .second .counted;
       derivations = λ before x after e.
-          let r = item-spelled (λ before x us. Spells (derivation n m names k before) x us) (t .derivations .derivations) (d .4 .1) (d .4 .4 .1) before x after e in
+          let r = item-spelled (λ before x us. Spells (derivation n m names k before) x us) (t .derivations .derivations) (d .back) (d .second .each) before x after e in
           derivation-in-range n m names k before x (r .0) (r .1);
-      assumptions-most = assumed-most n m names k [] (t .derivations .derivations) (d .4 .1) (omega arith) (d .4 .4 .1);
-      names-distinct = names-once n m k (t .constraints .rows) (t .derivations .derivations) (c .4 .4 .1) (d .4 .1) (c .4 .4 .4 .1) (d .4 .4 .1);
+      assumptions-most = assumed-most n m names k [] (t .derivations .derivations) (d .back) (omega arith) (d .second .each);
+      names-distinct = names-once n m k (t .constraints .rows) (t .derivations .derivations) (c .second .back) (d .back) (c .second .second .each) (d .second .each);
     }
 
 -- ---- the rows of the row table

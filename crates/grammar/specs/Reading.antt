@@ -1,19 +1,32 @@
 -- Reading tokens by a format, "token by token, each tested 3, 4, 5, 6, 7": what was kept and the tokens left, or the first
 -- refusal, by 01's number and the place of its token, or of the end (document 01, "Reasons of refusal").
 -- Assumes nothing.
-use mathlib.Core.Bool.{Bool, true, false, not}
+use mathlib.Core.Bool.{Bool, true, false, cond, not}
 use mathlib.Core.List.{List, [], _∷_, _++_}
 use mathlib.Core.Option.{Option, none, some}
 use Prim.Native.Nat.{ℕ, zero, suc}
 use lib.Dec.{ltb, eqb}
-use Rattle.text.specs.Bytes.{same, isNumeral, numberOf}
+use Rattle.text.specs.Bytes.{Bytes, same, every, isPrintable, isNumeral, numberOf}
 use Rattle.text.specs.Tokens.{Token, Stream, end, token}
 use Rattle.arithmetic.specs.Outcome.{Outcome, gives, refuses}
 use Rattle.numerals.specs.Reading.{readValue}
-use Rattle.grammar.specs.Format.{Or, instead, given, Symbol, word, placed, choice, number, name, rowName, value, or, Format, symbol, then, items, nothing, view}
-use Rattle.grammar.specs.Spelling.{isAmong, meaningOf, isName}
+use Rattle.grammar.specs.Format.{Word, Or, instead, given, Symbol, word, placed, choice, number, name, rowName, value, or, Format, symbol, then, items, nothing, view}
 
 -- ---- one token
+
+-- x is one of these, by a test of two
+abbrev pub isAmong : {A : Type 0} → (A → A → Bool) → A → List A → Bool
+isAmong eq x [] = false
+isAmong eq x (y ∷ ys) = cond (eq x y) true (isAmong eq x ys)
+
+-- the meaning of the first of these words that is w
+abbrev pub meaningOf : {A : Type 0} → List (Word A) → Bytes → Option A
+meaningOf [] w = none
+meaningOf (c ∷ cs) w = cond (same w (c .bytes)) (some (c .meaning)) (meaningOf cs w)
+
+-- every byte is one of a name
+abbrev pub isName : Bytes → Bool
+isName w = every isPrintable w
 
 -- the outcome of a test: the number of the refusal where it is false
 abbrev pub unless : {A : Type 0} → ℕ → Bool → Outcome A → Outcome A

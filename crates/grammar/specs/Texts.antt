@@ -14,7 +14,9 @@ use Rattle.grammar.specs.Tree.{Tree}
 use Rattle.grammar.specs.Spelling.{Spells}
 use Rattle.grammar.specs.Certificate.{certificate}
 use Rattle.grammar.specs.Reading.{Read, got, stopped, read}
-use Rattle.grammar.specs.Agreement.{impossible, sound, complete}
+use Rattle.grammar.specs.SymbolAgreement.{impossible}
+use Rattle.grammar.specs.Agreement.{sound, complete}
+use Rattle.grammar.specs.Unambiguous.{certificate-clear}
 use Rattle.grammar.specs.Layout.{cells, values, names}
 
 -- ---- what a text spells
@@ -85,7 +87,7 @@ module _ (text : Bytes) where
       let stream : whole ≡ join (s .tokens) (end (length text)) =
       rest-is text (commentsEnd text) ∙ ap (λ (ts : List Token). join ts (end (length text))) (sym (text-tokens-only (s .has-tokens))) in
       ap (λ (o : Stream). toTheEnd (read certificate o)) stream
-      ∙ ap toTheEnd (complete certificate tree (s .tokens) (end (length text)) (s .spelled))
+      ∙ ap toTheEnd (complete certificate tree (s .tokens) (end (length text)) certificate-clear (s .spelled))
 
   -- a text is taken exactly if it spells a tree
   pub taken-spelled : (tree : Tree) → (readOf text ≡ taken tree) ↔ SpellsTree text tree

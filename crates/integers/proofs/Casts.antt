@@ -9,29 +9,27 @@ use borrow.Author.Tests.{lt-ltb}
 use lib.Dec.{T, leb·zero, leb·suc-zero, leb·suc-suc, lit<}
 use lib.IntN.{ℤ, pos, negsuc, negℤ, natAbs, subℕ, _+ℤ_, _-ℤ_, _*ℤ_, +ℤ-idl}
 use lib.Signed.{mag, ltZ, leZ, nonNeg}
-use mir.Syntax.{w32, w64}
-use mir.Val.{Fits, SFits, toZ, ofZ}
+use mir.Syntax.{Width, w32, w64}
+use mir.Val.{Fits, SFits, hbits, toZ, ofZ}
 use mir.Facts.{toZ-ofZ, toZ-pos, sfits-widen}
 use Rattle.integers.specs.Signs.{isNegative, natAbs-mul, natAbs-sub, natAbs-mag, mag-natAbs}
 
 -- ---- reading back
 
--- an i32 from its 32 bits, and from 64
-pub back : {z : ℤ} → SFits w32 z → toZ w32 (ofZ w32 z) ≡ z
+-- a signed integer from its bits, at any width
+pub back : {w : Width} {z : ℤ} → SFits w z → toZ w (ofZ w z) ≡ z
 back h = toZ-ofZ h
 
+-- the same of a field of a struct, or of a call's result, of which the bound alone is told; and of an i32
+pub back-at : (w : Width) (z : ℤ) → mag z < 2 ^ hbits w → toZ w (ofZ w z) ≡ z
+back-at w z h = back {w = w} {z = z} (record { sfits = h })
+
+pub back-of : (z : ℤ) → mag z < 2147483648 → toZ w32 (ofZ w32 z) ≡ z
+back-of = back-at w32
+
+-- what fits 32 bits fits 64
 pub widen : {z : ℤ} → SFits w32 z → SFits w64 z
 widen h = sfits-widen tt h
-
-pub back64 : {z : ℤ} → SFits w32 z → toZ w64 (ofZ w64 z) ≡ z
-back64 h = toZ-ofZ (widen h)
-
--- the same of a field of a struct, or of a call's result, of which the bound alone is told
-pub back-of : (z : ℤ) → mag z < 2147483648 → toZ w32 (ofZ w32 z) ≡ z
-back-of z h = toZ-ofZ {w = w32} {z = z} (record { sfits = h })
-
-pub back64-of : (z : ℤ) → mag z < 2 ^ 63 → toZ w64 (ofZ w64 z) ≡ z
-back64-of z h = toZ-ofZ {w = w64} {z = z} (record { sfits = h })
 
 -- an unsigned number below 2 ^ 31
 pub back-pos : {m : ℕ} → m ≤ 2147483647 → toZ w32 m ≡ pos m
@@ -83,8 +81,12 @@ pub minus-negation : (m : ℕ) → pos 0 -ℤ negℤ (pos m) ≡ pos m
 minus-negation zero = refl
 minus-negation (suc m) = +ℤ-idl (pos (suc m))
 
-pub neg-fits : (z : ℤ) → natAbs z < 9223372036854775808 → SFits w64 (negℤ z)
-neg-fits z h = record { sfits = omega (arith, mag-neg z) }
+-- at any width, whose most negative number alone has no negation; and of a magnitude in 32 bits
+pub neg-fits : (w : Width) (z : ℤ) → natAbs z < 2 ^ hbits w → SFits w (negℤ z)
+neg-fits w z h = record { sfits = lt-of-le-of-lt (mag-neg z) h }
+
+pub neg-pos-fits : (m : ℕ) → m ≤ 2147483647 → SFits w32 (negℤ (pos m))
+neg-pos-fits m h = neg-fits w32 (pos m) (omega arith)
 
 pub natAbs-fits : (z : ℤ) → natAbs z < 9223372036854775808 → Fits w64 (natAbs z)
 natAbs-fits z h = record { fits = omega arith }
@@ -100,12 +102,6 @@ neg-nonNeg (negsuc n) e = tt
 pub pos-nonNeg : (z : ℤ) → isNegative z ≡ false → T (nonNeg z)
 pos-nonNeg (pos n) e = tt
 pos-nonNeg (negsuc n) e = subst T e tt
-
-pub neg-pos-fits : (m : ℕ) → m ≤ 2147483647 → SFits w32 (negℤ (pos m))
-neg-pos-fits m h = record { sfits = omega (arith, mag-neg (pos m)) }
-
-pub pos-fits : (m : ℕ) → m ≤ 2147483647 → SFits w32 (pos m)
-pos-fits m h = record { sfits = omega arith }
 
 -- ---- whole products of 32 bits fit 64
 

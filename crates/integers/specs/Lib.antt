@@ -1,7 +1,6 @@
 -- The whole numbers: laws that the crates above cite, each stated once.
 pub mod Signs
 pub mod Integers
-pub mod Ring
 pub mod Gcd
 pub mod Coprime
 pub mod Binary

@@ -1,7 +1,7 @@
 -- Counting the numbers below n that pass a test.
 -- Assumes nothing.
 use mathlib.Core.Path.{_≡_, refl, sym, _∙_, ap, ap₂}
-use mathlib.Core.Bool.{Bool, true, false, not, cond, _&&_}
+use mathlib.Core.Bool.{Bool, true, false, not, cond, _&&_, and-true, and-false}
 use Prim.Native.Nat.{ℕ, zero, suc, _+_, _≤_, _<_}
 use native.Mathlib.Nat.{not-suc-le-zero}
 use native.Mathlib.Numerals.{add-one}
@@ -81,17 +81,9 @@ pub none-counted : (test : ℕ → Bool) (n : ℕ) → eqb (countBelow n (λ v. 
 none-counted test zero = refl
 none-counted test (suc n) = go (test n) ∙ ap (λ (b : Bool). b && test n) (none-counted test n)
   where
-    and-true : (a : Bool) → a ≡ a && true
-    and-true true = refl
-    and-true false = refl
-
-    and-false : (a : Bool) → false ≡ a && false
-    and-false true = refl
-    and-false false = refl
-
     go : (t : Bool) → eqb (cond (not t) (suc (countBelow n (λ v. not (test v)))) (countBelow n (λ v. not (test v)))) 0 ≡ eqb (countBelow n (λ v. not (test v))) 0 && t
-    go true = and-true (eqb (countBelow n (λ v. not (test v))) 0)
-    go false = ne-eqb (suc (countBelow n (λ v. not (test v)))) 0 (λ e. omega arith) ∙ and-false (eqb (countBelow n (λ v. not (test v))) 0)
+    go true = sym (and-true (eqb (countBelow n (λ v. not (test v))) 0))
+    go false = ne-eqb (suc (countBelow n (λ v. not (test v)))) 0 (λ e. omega arith) ∙ sym (and-false (eqb (countBelow n (λ v. not (test v))) 0))
 
 -- ---- a loop over the variables that have their place in the arrays
 

@@ -1,7 +1,7 @@
 -- Laws over plain values that the functions' proofs cite, in reading order; those marked `pub` serve the crates above too.
 mod CoefficientsLaws
-pub mod Going
-pub mod TestsLaws
+mod Going
+mod TestsLaws
 mod PointsLaws
 mod CombinationsLaws
 mod Counting

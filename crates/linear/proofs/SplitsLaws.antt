@@ -1,7 +1,7 @@
 -- Splits: three tests, the last asked first.
 -- Assumes nothing.
-use mathlib.Core.Path.{_≡_, refl, sym, _∙_, ap}
-use mathlib.Core.Bool.{Bool, true, false, _&&_, _||_}
+use mathlib.Core.Path.{_≡_, sym, _∙_, ap}
+use mathlib.Core.Bool.{Bool, true, false, _&&_, _||_, and-true, and-false}
 use Prim.Native.Nat.{ℕ}
 use Rattle.arithmetic.specs.declared.Fraction.{Fraction}
 use Rattle.grammar.specs.Tree.{Tree}
@@ -11,14 +11,6 @@ use Rattle.rules.specs.Rows.{variables, Constraint}
 use Rattle.rules.specs.Domination.{sameCoefficients}
 use Rattle.rules.specs.Rounding.{isIntegral}
 use Rattle.rules.specs.Splits.{areAdjacent, isSplit}
-
-and-false : (a : Bool) → false ≡ a && false
-and-false true = refl
-and-false false = refl
-
-and-true : (a : Bool) → a ≡ a && true
-and-true true = refl
-and-true false = refl
 
 module _ (tree : Tree) (c d : Constraint) where
   abbrev same : Bool
@@ -30,19 +22,19 @@ module _ (tree : Tree) (c d : Constraint) where
   pub not-adjacent : {r : Bool} → r ≡ areAdjacent c d || areAdjacent d c → r ≡ false → false ≡ isSplit tree c d
   unfolding isSplit
   not-adjacent e q =
-      and-false same
-      ∙ ap (λ (t : Bool). same && t) (and-false (isIntegral tree c))
+      sym (and-false same)
+      ∙ ap (λ (t : Bool). same && t) (sym (and-false (isIntegral tree c)))
       ∙ ap (λ (t : Bool). same && (isIntegral tree c && t)) (sym q ∙ e)
 
   pub not-integral : {r : Bool} → r ≡ isIntegral tree c → r ≡ false → false ≡ isSplit tree c d
   unfolding isSplit
-  not-integral e q = and-false same ∙ ap (λ (t : Bool). same && (t && adjacent)) (sym q ∙ e)
+  not-integral e q = sym (and-false same) ∙ ap (λ (t : Bool). same && (t && adjacent)) (sym q ∙ e)
 
   -- where both hold, equal coefficients
   pub split-by : {i a : Bool} → i ≡ isIntegral tree c → i ≡ true → a ≡ areAdjacent c d || areAdjacent d c → a ≡ true → same ≡ isSplit tree c d
   unfolding isSplit
   split-by e p f q =
-      and-true same
+      sym (and-true same)
       ∙ ap (λ (t : Bool). same && t) (sym q ∙ f)
       ∙ ap (λ (t : Bool). same && (t && adjacent)) (sym p ∙ e)
 

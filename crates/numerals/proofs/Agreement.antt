@@ -12,6 +12,7 @@ use borrow.Author.Tests.{not-true, ltb-true, ltb-false, lt-ltb, eqb-false, leb-t
 use lib.Dec.{ltb, leb, lt→ltb}
 use lib.IntN.{ℤ, pos, negsuc, natAbs}
 use lib.ListN.{length}
+use Rattle.integers.specs.Coprime.{coprime-common}
 use Rattle.text.specs.Bytes.{Bytes, isDigit, every, numberAfter}
 use Rattle.text.specs.BytesLaws.{clash, both}
 use Rattle.arithmetic.specs.Outcome.{Outcome, gives, refuses}
@@ -125,7 +126,7 @@ spelled-exactly token f s =
         positive = record { lt = lt→ltb 0 (lowest q .bottom) (lowest-positive q h) };
         num-within = at-most (natAbs (lowest q .top)) (λ k. within (inl k));
         den-within = at-most (lowest q .bottom) (λ k. within (inr k));
-        lowest-terms = lowest-coprime q h;
+        lowest-terms = λ k. coprime-common (natAbs (lowest q .top)) (lowest q .bottom) k (lowest-coprime q h);
       },
       lowest-equal q h,
     )

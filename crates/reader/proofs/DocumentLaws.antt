@@ -40,10 +40,10 @@ constraints-names : (n : ℕ) {k : Constraints} {text : Bytes} {s t : State} →
 unfolding marks gather
 constraints-names n {k} {text} {s} {t} w fits =
     let spelled = sound (constraints n) (rest text (s .cursor .at)) k (rest text (t .cursor .at)) (w .reads) .2 in
-    let counted : length (k .rows) ≡ k .count = spelled .4 .4 .4 .0 in
+    let counted : length (k .rows) ≡ k .count = spelled .second .second .second .counted in
     ap (λ (m : ℕ). namesIn text (slice 0 (4 * m) (t .rows))) (sym counted ∙ sym (zero-add (length (k .rows))))
     ∙ ap (λ (table : List ℕ). namesIn text (slice 0 (4 * (0 + length (k .rows))) table)) (w .rows-is)
-    ∙ marked-laid (rows-marked n) (k .count) (k .rows) _ _ text (s .rows) (w .named) (omega (arith, spelled .4 .3 .2 .in-range, fits, counted))
+    ∙ marked-laid (rows-marked n) (k .count) (k .rows) _ _ text (s .rows) (w .named) (omega (arith, spelled .second .first .spelled .in-range, fits, counted))
 
 version-takes : (u : Unit {0}) → (length (cells version u) ≡ 0) × (length (values version u) ≡ 0)
 unfolding gather

@@ -4,11 +4,10 @@ use mathlib.Core.Path.{_≡_, refl, _∙_, ap, subst}
 use mathlib.Core.Logic.{_↔_}
 use Prim.Native.Nat.{ℕ}
 use lib.IntN.{ℤ}
-use Rattle.integers.specs.Integers.{≤ℤ-antisym}
-use Rattle.arithmetic.specs.Quotient.{Quotient, _≈_, floorQ, ceilingQ}
+use Rattle.arithmetic.specs.Quotient.{_≈_, floorQ, ceilingQ}
 use Rattle.arithmetic.specs.QuotientLaws.{Positive}
 use Rattle.arithmetic.specs.Fraction.{exact}
-use Rattle.arithmetic.specs.Meaning.{IsFloor, IsCeiling, floor-is, ceiling-is}
+use Rattle.arithmetic.specs.Meaning.{IsFloor, IsCeiling, floor-is, ceiling-is, floor-one, ceiling-one}
 use Rattle.grammar.specs.Tree.{Sense, equal, atMost, atLeast, Tree}
 use Rattle.rules.specs.Tests.{Decides, decides-as, decides-and, decides-not, decides-unless, decides-equal, decides-some, decides-below}
 use Rattle.rules.specs.Values.{wholeF, Whole, zeroQ}
@@ -37,12 +36,6 @@ module _ (tree : Tree) where
       (decides-and _ _ (decides-not (sameSense (c .sense) equal) (decides-sense (c .sense) equal)) (decides-integral c))
 
 -- ---- the rounded right side
-
-floor-one : (x : Quotient) (y z : ℤ) → IsFloor x y → IsFloor x z → y ≡ z
-floor-one x y z f g = ≤ℤ-antisym y z (g .greatest y (f .below)) (f .greatest z (g .below))
-
-ceiling-one : (x : Quotient) (y z : ℤ) → IsCeiling x y → IsCeiling x z → y ≡ z
-ceiling-one x y z f g = ≤ℤ-antisym y z (f .least z (g .above)) (g .least y (f .above))
 
 -- what can be rounded, and has a fraction for its right side, is rounded as worked out, and to nothing else
 pub rounded-is : (c : Constraint) → Positive (exact (c .right)) → (c .sense ≡ equal → ⊥) → (d : Constraint) → (rounded c ≡ d) ↔ Rounded c d

@@ -16,7 +16,7 @@ use Rattle.arithmetic.specs.Outcome.{Outcome, gives, refuses}
 use Rattle.arithmetic.specs.Quotient.{Quotient, _≈_, _≤Q_, _<Q_, wholeQ}
 use Rattle.arithmetic.specs.QuotientLaws.{≈-refl, ≈-sym, ≤Q-total, ≤Q-of-≈, ≤Q-of-<, <Q-clash, lowest-terms-unique}
 use Rattle.arithmetic.specs.Fraction.{IsFraction, exact, Order, orderQ, productOf, sumOf, compareOf}
-use Rattle.arithmetic.specs.Meaning.{product-means, sum-means, Says, order-says, compare-answers, den-is, exact-positive, exact-unique}
+use Rattle.arithmetic.specs.Meaning.{product-means, sum-means, Says, order-says, compare-answers, den-is, parts-coprime, exact-positive, exact-unique}
 use Rattle.arithmetic.specs.declared.Fraction.{Fraction}
 use Rattle.rules.specs.Tests.{Decides, not-true, decides-as, decides-equal, decides-not}
 use Rattle.rules.specs.Result.{refused, Gives, no-value, done-same}
@@ -53,7 +53,7 @@ whole-exact f v = (to, from)
 
     from : (z : ℤ) × (exact f ≈ wholeQ z) → Whole f
     from w =
-        let one : exact f ≡ wholeQ (w .0) = lowest-terms-unique (exact f) (wholeQ (w .0)) (exact-positive f v) (omega arith) (v .lowest-terms) (eq-one-of-dvd-one (gcd-right (natAbs (w .0)) 1)) (w .1) in
+        let one : exact f ≡ wholeQ (w .0) = lowest-terms-unique (exact f) (wholeQ (w .0)) (exact-positive f v) (omega arith) (parts-coprime f v) (eq-one-of-dvd-one (gcd-right (natAbs (w .0)) 1)) (w .1) in
         decides-whole f .0 (decides-same-integer (f .den) (pos 1) .1 (den-is f v ∙ ap (λ (x : Quotient). pos (x .bottom)) one))
 
 -- ---- signs
@@ -94,12 +94,12 @@ module _ (a b : Fraction) where
           go : (o : Outcome Order) → compareOf a b ≡ o → passes test o ≡ true → Compared R a b
           go (gives o) e t =
               let p = compare-answers a b .gives-it o .0 e in
-              record { fractions = p .0; compared = d o (subst (Says (exact a) (exact b)) (p .1) (order-says (exact a) (exact b))) .0 t }
+              record { fractions = p .0; compared = d o (p .1) .0 t }
           go (refuses n) e t = not-true t
 
       enough : Compared R a b → passes test (compareOf a b) ≡ true
       enough c =
-          ap (passes test) (compare-answers a b .gives-it (orderQ (exact a) (exact b)) .1 (c .fractions, refl))
+          ap (passes test) (compare-answers a b .gives-it (orderQ (exact a) (exact b)) .1 (c .fractions, order-says (exact a) (exact b)))
           ∙ d (orderQ (exact a) (exact b)) (order-says (exact a) (exact b)) .1 (c .compared)
 
   pub decides-at-most : Decides (isAtMost a b) (AtMost a b)

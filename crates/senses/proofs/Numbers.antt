@@ -1,4 +1,4 @@
--- Signed numbers as the machine tests them, and the answers of `fraction`.
+-- Signed numbers as the machine tests them, and the answers of `arithmetic`.
 -- Assumes nothing.
 use mathlib.Core.Path.{_≡_, refl, sym, _∙_, ap}
 use mathlib.Core.Bool.{Bool, true, false, not, cond}
@@ -13,7 +13,7 @@ use mir.Val.{SFits, toZ, ofZ}
 use mir.Facts.{toZ-ofZ}
 use Rattle.integers.proofs.Casts.{back-of, zero-minus, neg-fits, natAbs-small}
 use Rattle.integers.specs.Integers.{*ℤ-pos-one}
-use Rattle.arithmetic.specs.Outcome.{Outcome, gives, refuses}
+use Rattle.arithmetic.specs.Outcome.{Outcome}
 use Rattle.arithmetic.specs.Fraction.{Order, comparisonSays}
 use Rattle.arithmetic.specs.declared.Comparison.{Comparison}
 use Rattle.rules.specs.Tests.{fails}
@@ -79,7 +79,7 @@ is-next x y p q = rw (copied x p, back-of y q) (same-bits w64 y (x +ℤ pos 1) (
 -- ---- 0 minus a number, in 64 bits
 
 pub negated-fits : (x : ℤ) → mag x < 2147483648 → SFits w64 (pos 0 -ℤ toZ w64 (ofZ w64 (toZ w32 (ofZ w32 x))))
-negated-fits x p = rw (copied x p, zero-minus x) (neg-fits x (omega (arith, natAbs-small x (record { sfits = p }))))
+negated-fits x p = rw (copied x p, zero-minus x) (neg-fits w64 x (omega (arith, natAbs-small x (record { sfits = p }))))
 
 pub negated : (x : ℤ) → mag x < 2147483648
     → toZ w64 (ofZ w64 (pos 0 -ℤ toZ w64 (ofZ w64 (toZ w32 (ofZ w32 x))))) ≡ x *ℤ negsuc 0
@@ -95,11 +95,3 @@ at-least-zero (negsuc n) = refl
 
 pub passed : (test : Order → Bool) {r s : Comparison} {o : Outcome Order} → comparisonSays r ≡ o → r ≡ s → passes test (comparisonSays s) ≡ passes test o
 passed test e h = ap (λ (c : Comparison). passes test (comparisonSays c)) (sym h) ∙ ap (passes test) e
-
--- two tests that say the same of each order
-pub same-passes : (f g : Order → Bool) → f Order.less ≡ g Order.less → f Order.equal ≡ g Order.equal → f Order.greater ≡ g Order.greater
-    → (o : Outcome Order) → passes f o ≡ passes g o
-same-passes f g l e m (gives Order.less) = l
-same-passes f g l e m (gives Order.equal) = e
-same-passes f g l e m (gives Order.greater) = m
-same-passes f g l e m (refuses n) = refl

@@ -8,7 +8,6 @@ use native.Mathlib.Omega.{arith}
 use lib.Dec.{lit≤}
 use lib.IntN.{ℤ, pos, negsuc, negℤ, natAbs}
 use Rattle.integers.specs.Signs.{natAbs-neg}
-use Rattle.integers.specs.Gcd.{gcd-right}
 use Rattle.arithmetic.specs.Outcome.{gives, refuses}
 use Rattle.arithmetic.specs.Quotient.{floorZ, ceilingZ, floorQ, ceilingQ}
 use Rattle.arithmetic.specs.Fraction.{limit, IsFraction, exact, onFractions, isFraction}
@@ -34,7 +33,7 @@ unfolding ceilingZ
 ceiling-abs n d = omega (arith, natAbs-neg (floorZ (negℤ n) d), floor-abs (negℤ n) d, natAbs-neg n)
 
 whole-is : (z : ℤ) → natAbs z ≤ limit → IsFraction (wholeF z)
-whole-is z h = record { positive = record { lt = tt }; num-within = h; den-within = lit≤ tt; lowest-terms = eq-one-of-dvd-one (gcd-right (natAbs z) 1) }
+whole-is z h = record { positive = record { lt = tt }; num-within = h; den-within = lit≤ tt; lowest-terms = λ k p q. eq-one-of-dvd-one q }
 
 rounded-is : (s : Sense) (right : Fraction) → IsFraction right → IsFraction (roundedRight s right)
 rounded-is equal right v = v

@@ -7,7 +7,7 @@ ghost use Prim.Native.Nat.{ℕ, _-_, max};
 ghost use lib.Dec.{eqb, ltb};
 ghost use Rattle.sets.specs.Sets.{bit, one};
 
-// The members of both.
+// The members of either.
 pub fn union(a: u64, b: u64) -> u64
     ensures { λ r. ⌜ ((k : ℕ) → bit r k ≡ max (bit a k) (bit b k)) ⌝ }
 {

@@ -18,7 +18,7 @@ use Rattle.numerals.specs.Reading.{readValue}
 use Rattle.value.specs.Promise.{valueSays}
 use Rattle.value.specs.declared.ValueAnswer.{ValueAnswer}
 use Rattle.grammar.specs.Format.{Or, instead, given, Symbol, number, placed, rowName, value, or}
-use Rattle.grammar.specs.Spelling.{isAmong, isName}
+use Rattle.grammar.specs.Reading.{isAmong, isName}
 use Rattle.grammar.specs.Reading.{unless, orElse, decode}
 use Rattle.grammar.specs.Layout.{symbolValues, symbolMarks}
 use Rattle.grammar.specs.declared.Refusal.{Refusal}

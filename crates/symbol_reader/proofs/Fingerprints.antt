@@ -12,7 +12,7 @@ use lib.ListN.{length, take, drop, length-drop, take-append-drop}
 use lib.Seq.{slice, take-all, length-take-le}
 use Rattle.text.specs.Bytes.{Bytes, same}
 use Rattle.text.specs.BytesLaws.{same-true, clash}
-use Rattle.grammar.specs.Spelling.{isAmong}
+use Rattle.grammar.specs.Reading.{isAmong}
 use Rattle.symbol_reader.specs.Leaves.{namesIn, fingerprintAfter, fingerprintOf}
 use Rattle.symbol_reader.specs.Marks.{marked, Fingerprinted}
 use Rattle.symbol_reader.proofs.MarksLaws.{among-more}

@@ -11,7 +11,7 @@ use lib.ListN.{length, getD, set, replicate, List·getD-eq-default}
 use lib.Seq.{getD-set-same, getD-set-other}
 use Rattle.sets.specs.Sets.{bit, one}
 use Rattle.sets.specs.SetsLaws.{bit-lt, bit-zero}
-use Rattle.grammar.specs.Spelling.{isAmong}
+use Rattle.grammar.specs.Reading.{isAmong}
 use Rattle.symbol_reader.specs.Marks.{marked, Marks}
 
 pub unmarked-beyond : (words : List ℕ) (n : ℕ) → length words ≤ n / 64 → marked words n ≡ false

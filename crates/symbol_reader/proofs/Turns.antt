@@ -7,12 +7,11 @@ use Prim.Native.Nat.{ℕ, _+_, _-_, _*_, _≤_, _<_, min}
 use native.Mathlib.Numerals.{add-one}
 use native.Mathlib.Omega.{arith}
 use lib.Dec.{leb, eqb}
-use lib.ListN.{length, getD}
+use lib.ListN.{length, getD, take, length-take, drop-of-length-le}
 use lib.Seq.{slice, slice-cons}
 use borrow.Author.Tests.{le-leb, lt-leb, leb-true, leb-false}
 use Rattle.text.specs.Bytes.{Bytes, every, same, isDigit, numberAfter}
-use Rattle.text.proofs.Parts.{part-none}
-use Rattle.grammar.specs.Spelling.{isAmong}
+use Rattle.grammar.specs.Reading.{isAmong}
 use Rattle.tables.specs.Limits.{largest}
 use Rattle.symbol_reader.specs.Steps.{nameAt}
 use Rattle.symbol_reader.specs.Leaves.{namesIn}
@@ -27,7 +26,7 @@ pub record Left {B : Type 0} (F : List ℕ → B) (l : List ℕ) (i to : ℕ) (a
 
 module _ {B : Type 0} {F : List ℕ → B} {l : List ℕ} {i to : ℕ} {answer : B} (left : Left F l i to answer) where
   pub all-done : to ≤ i → F [] ≡ answer
-  all-done h = ap F (part-none l i to (min to (length l)) refl (omega arith)) ∙ left .is
+  all-done h = let k : length (take to l) ≤ i = omega (arith, length-take to l) in ap F (sym (drop-of-length-le (take to l) k)) ∙ left .is
 
   module _ (h : i < to) (k : to ≤ length l) where
     -- the element at i is taken in

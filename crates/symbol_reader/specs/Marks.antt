@@ -8,7 +8,7 @@ use lib.Dec.{eqb}
 use lib.ListN.{length, getD}
 use Rattle.text.specs.Bytes.{Bytes, same}
 use Rattle.sets.specs.Sets.{bit}
-use Rattle.grammar.specs.Spelling.{isAmong}
+use Rattle.grammar.specs.Reading.{isAmong}
 use Rattle.symbol_reader.specs.Leaves.{fingerprintOf}
 use Rattle.symbol_reader.specs.declared.Step.{Step}
 use Rattle.symbol_reader.specs.declared.Step.the-variants.{Next, Stop}

@@ -9,7 +9,7 @@ ghost use lib.Seq.{slice};
 ghost use Prim.Native.Nat.{ℕ, _+_, _*_, _≤_, _<_};
 ghost use Rattle.text.specs.Bytes.{same};
 ghost use Rattle.grammar.specs.Format.{symbol, name, rowName};
-ghost use Rattle.grammar.specs.Spelling.{isAmong, isName};
+ghost use Rattle.grammar.specs.Reading.{isAmong, isName};
 ghost use Rattle.symbol_reader.specs.Steps.{the};
 ghost use Rattle.symbol_reader.specs.Follows.{Always, Follows, Refuses};
 ghost use Rattle.symbol_reader.specs.Leaves.{Means, tokenAt, NoRow, namesIn, fingerprintOf};

@@ -2,15 +2,15 @@
 -- Assumes nothing.
 use mathlib.Core.Path.{_≡_, sym, ap, _∙_, subst}
 use mathlib.Core.List.{[], _∷_}
-use Prim.Native.Nat.{ℕ, zero, suc, _+_, _-_, _≤_, _<_, min}
+use Prim.Native.Nat.{ℕ, zero, suc, _+_, _-_, _≤_, min}
 use native.Mathlib.Nat.{zero-min, suc-min-suc}
 use native.Mathlib.Omega.{arith}
-use lib.ListN.{length, take, drop, length-take, drop-of-length-le}
-use lib.Seq.{slice, take-nil}
+use lib.ListN.{length, take, drop, length-take}
+use lib.Seq.{slice, take-nil, drop-nil}
 use denote.Ref.{RefT}
 use Rattle.text.specs.Bytes.{Bytes}
 use Rattle.text.specs.BytesLaws.{slice-take}
-use Rattle.text.specs.Shown.{IsPart}
+use Rattle.text.specs.Shown.{IsPart, partFrom, partTo}
 
 -- so many bytes from the start, as far as the text goes
 pub take-least : (n : ℕ) (text : Bytes) → take (min n (length text)) text ≡ take n text
@@ -18,16 +18,18 @@ take-least zero text = rw zero-min
 take-least (suc n) [] = take-nil (min (suc n) 0)
 take-least (suc n) (b ∷ text) = rw suc-min-suc (ap (λ (u : Bytes). b ∷ u) (take-least n text))
 
-module _ (text : Bytes) (from to end : ℕ) (is : end ≡ min to (length text)) where
-  pub part-some : from < end → take (end - from) (drop from text) ≡ slice from to text
-  part-some h =
-      let e : from + (end - from) ≡ end = omega arith in
-      sym (slice-take from (end - from) text)
-      ∙ ap (λ (n : ℕ). slice from n text) e
-      ∙ ap (drop from) (ap (λ (n : ℕ). take n text) is ∙ take-least to text)
+-- and what is left after so many, where there are so many
+drop-least : (n : ℕ) (text : Bytes) → drop (min n (length text)) text ≡ drop n text
+drop-least zero text = rw zero-min
+drop-least (suc n) [] = drop-nil (min (suc n) 0)
+drop-least (suc n) (b ∷ text) = rw suc-min-suc (drop-least n text)
 
-  pub part-none : end ≤ from → [] ≡ slice from to text
-  part-none h = let l : length (take to text) ≤ from = omega (arith, length-take to text) in sym (drop-of-length-le (take to text) l)
+-- the part that a text has of `from` .. `to` has these bytes
+pub slice-least : (from to : ℕ) (text : Bytes) → slice (partFrom text from to) (partTo text to) text ≡ slice from to text
+slice-least from to text =
+    ap (drop (partFrom text from to)) (take-least to text)
+    ∙ ap (λ (n : ℕ). drop (min from n) (take to text)) (sym (length-take to text))
+    ∙ drop-least from (take to text)
 
 -- ---- a reference to a part
 

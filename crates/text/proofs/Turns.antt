@@ -30,6 +30,10 @@ module _ (test : ℕ → Bool) (text : Bytes) (i : ℕ) where
   pub leading-past : length text ≤ i → leading test (drop i text) ≡ 0
   leading-past h = rw (drop-of-length-le text h)
 
+  -- where they end is within the text
+  pub run-inside : {end : ℕ} → end ≡ i + leading test (drop i text) → i ≤ length text → end ≤ length text
+  run-inside e h = omega (arith, e, leading-le test (drop i text), length-drop i text)
+
 -- ---- two strings, from i on
 
 pub same-longer : (u v : Bytes) → (length u ≡ length v → ⊥) → same u v ≡ false
@@ -116,7 +120,7 @@ module _ {text : Bytes} {at end : ℕ} (l : CommentLine text at end) where
   line-ahead = omega (arith, l .goes-to)
 
   pub line-inside : end ≤ length text
-  line-inside = omega (arith, l .inside, l .goes-to, leading-le isLineByte (drop at text), length-drop at text)
+  line-inside = run-inside isLineByte text at (l .goes-to) (omega (arith, l .inside))
 
   -- the text ends with it
   pub comment-last : end ≡ length text → at + commentBytes false (drop at text) ≡ end

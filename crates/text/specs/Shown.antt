@@ -4,7 +4,7 @@
 -- Assumes nothing.
 use mathlib.Core.Path.{_≡_}
 use mathlib.Core.Bool.{Bool, cond, _&&_, _||_}
-use Prim.Native.Nat.{ℕ, _+_, _-_, _≤_}
+use Prim.Native.Nat.{ℕ, _+_, _-_, _≤_, min}
 use lib.Dec.{eqb, ltb}
 use lib.ListN.{length, getD}
 use lib.Seq.{slice}
@@ -38,3 +38,11 @@ pub record IsPart (text : RefT Bytes) (from to : ℕ) (part : RefT Bytes) : Type
   pub block : part .ptr .0 ≡ text .ptr .0
   pub offset : part .ptr .1 ≡ text .ptr .1 + from
   pub bytes : part .now ≡ slice from to (text .now)
+
+-- where the part `from` .. `to` of a text begins and ends, as far as the text goes: one that would begin after its end is empty at
+-- that end
+abbrev pub partTo : Bytes → ℕ → ℕ
+partTo text to = min to (length text)
+
+abbrev pub partFrom : Bytes → ℕ → ℕ → ℕ
+partFrom text from to = min from (partTo text to)

@@ -9,12 +9,13 @@ use native.Mathlib.Nat.{add-zero}
 use native.Mathlib.Omega.{arith}
 use lib.Dec.{eqb, ltb}
 use lib.ListN.{length, take, drop, getD, take-append-drop}
-use lib.Seq.{slice, slice-empty, getD-drop, drop-drop, take-suc, length-take-le}
+use lib.Seq.{slice, slice-empty, getD-drop, drop-drop, drop-length, take-suc, length-take-le, drop-append-add, getD-append-add}
 use borrow.Author.Tests.{ltb-true, lt-ltb, ltb-false, ne-eqb}
 use Rattle.text.specs.Bytes.{Bytes, isSeparator, leading}
 use Rattle.text.specs.BytesLaws.{both, uncons, leading-at}
-use Rattle.text.specs.Tokens.{Token, isTokenByte, isEnded, Stream, token, join, listed, streamAt, rest, tokenEnd}
-use Rattle.text.specs.TokensLaws.{isSeparated, separated-last, stream-cut}
+use Rattle.text.specs.Comments.{CommentsEndAt, none, line, last}
+use Rattle.text.specs.Tokens.{Token, isTokenByte, isEnded, TextHasTokens, Stream, end, token, join, listed, streamAt, rest, tokenEnd}
+use Rattle.text.specs.TokensLaws.{has-tokens, isSeparated, separated-last, stream-cut}
 use Rattle.text.specs.ScansLaws.{rest-token, first-at, found-first, none-left, token-ended}
 use Rattle.text.specs.Shown.{followsSeparator, beginsToken, shownFrom, shownTo, shownAt}
 
@@ -138,6 +139,47 @@ each-shown text (b ∷ before) t s at u e =
 pub token-shown : (text : Bytes) (at : ℕ) (before : List Token) (t : Token) (s : Stream) → followsSeparator text at ≡ true
     → rest text at ≡ join (before ++ (t ∷ [])) s → (beginsToken text (t .place) ≡ true) × (shownAt text (t .place) ≡ t .bytes)
 token-shown text at before t s f e = let h = each-shown text before t s at (inl f) e in (h .begun, h .shown)
+
+-- ---- each token of the text, after its comments, is shown
+
+feed-separates : isSeparator 10 ≡ true
+unfolding isSeparator
+feed-separates = refl
+
+-- after LF, a place is between tokens where it is so in what follows
+after-feed : (front after : Bytes) (place : ℕ) → Between after place → Between (front ++ (10 ∷ after)) (length front + suc place)
+after-feed front after place u = ⊎-elim (λ f. inl (follows place f)) (λ d. inr (rw (drop-append-add front (10 ∷ after) (suc place)) d)) u
+  where
+    before-it : (n : ℕ) → getD (front ++ (10 ∷ after)) (length front + suc n - 1) 0 ≡ getD (10 ∷ after) n 0
+    before-it n = let q : length front + suc n - 1 ≡ length front + n = omega arith in rw (q, getD-append-add front (10 ∷ after) n 0)
+
+    separator : (n : ℕ) → followsSeparator after n ≡ true → isSeparator (getD (10 ∷ after) n 0) ≡ true
+    separator zero f = feed-separates
+    separator (suc n) f = let q : suc n - 1 ≡ n = omega arith in rw (q, ne-eqb (suc n) 0 (λ z. omega (arith, z))) at f
+
+    follows : (n : ℕ) → followsSeparator after n ≡ true → followsSeparator (front ++ (10 ∷ after)) (length front + suc n) ≡ true
+    follows n f = rw (before-it n, separator n f) (or-true (eqb (length front + suc n) 0))
+
+-- the place after the comments is between tokens
+comments-between : {text : Bytes} {place : ℕ} → CommentsEndAt text place → Between text place
+comments-between (none e) = inl refl
+comments-between (line {place = place} inside after is e k) =
+    let n : length (37 ∷ inside) + suc place ≡ length inside + 2 + place = omega arith in
+    subst (λ (u : Bytes). Between u (length inside + 2 + place)) (sym is)
+    (subst (Between (37 ∷ (inside ++ (10 ∷ after)))) n (after-feed (37 ∷ inside) after place (comments-between k)))
+comments-between (last {text} inside is e) = inr (rw (drop-length text))
+
+join-cut : (before : List Token) (t : Token) (after : List Token) (s : Stream) → join (before ++ (t ∷ after)) s ≡ join (before ++ (t ∷ [])) (join after s)
+join-cut [] t after s = refl
+join-cut (b ∷ before) t after s = ap (token (b .place) (b .bytes)) (join-cut before t after s)
+
+-- each token of a text, after its comments, begins where it stands, and is shown there
+pub text-token-shown : {text : Bytes} (before : List Token) (t : Token) (after : List Token) → TextHasTokens text (before ++ (t ∷ after))
+    → (beginsToken text (t .place) ≡ true) × (shownAt text (t .place) ≡ t .bytes)
+text-token-shown {text} before t after h =
+    let e = has-tokens text (h .start) (before ++ (t ∷ after)) .0 (h .tokens) ∙ join-cut before t after (end (length text)) in
+    let f = each-shown text before t (join after (end (length text))) (h .start) (comments-between (h .comments)) e in
+    (f .begun, f .shown)
 
 -- ---- what is shown is a token
 

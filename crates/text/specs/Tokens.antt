@@ -43,6 +43,13 @@ abbrev pub HasTokens : ℕ → Bytes → List Token → Type 0
 HasTokens at part [] = every isSeparator part ≡ true
 HasTokens at part (t ∷ ts) = (after : Bytes) × FirstToken at part t after × HasTokens (t .place + length (t .bytes)) after ts
 
+-- the first token of the text from place `at` on goes `from` .. `to`
+pub record FirstGoes (text : Bytes) (at from to : ℕ) : Type 0 where
+  pub bytes : Bytes
+  pub after : Bytes
+  pub first : FirstToken at (drop at text) (record { place = from; bytes = bytes }) after
+  pub ends : to ≡ from + length bytes
+
 -- the text has these tokens after its comments
 pub record TextHasTokens (text : Bytes) (ts : List Token) : Type 0 where
   pub start : ℕ

@@ -56,7 +56,7 @@ stream-end size at gap e = ap (streamAt size at) (sym (append-nil gap)) ∙ stre
 
 -- ---- from the words to the stream
 
-first-stream : (size : ℕ) {at : ℕ} {part : Bytes} {t : Token} {after : Bytes} → FirstToken at part t after
+pub first-stream : (size : ℕ) {at : ℕ} {part : Bytes} {t : Token} {after : Bytes} → FirstToken at part t after
     → streamAt size at part ≡ token (t .place) (t .bytes) (streamAt size (t .place + length (t .bytes)) after)
 first-stream size {at} {part} {t} {after} f =
     ap (streamAt size at) (f .cut)

@@ -5,11 +5,10 @@ ghost use Prim.Native.Nat.{_+_, min};
 ghost use lib.ListN.{drop};
 ghost use lib.Seq.{slice};
 ghost use Rattle.text.specs.Bytes.{isSeparator, isDigit, leading, same};
-ghost use Rattle.text.specs.Comments.{commentsEnd};
-ghost use Rattle.text.specs.Tokens.{rest};
 ghost use Rattle.text.specs.Lines.{lineOf};
-ghost use Rattle.text.specs.Shown.{beginsToken, shownFrom, shownTo, IsPart};
-ghost use Rattle.text.specs.Scans.{isOf, scanOf};
+ghost use Rattle.text.specs.Shown.{beginsToken};
+ghost use Rattle.text.specs.Scans.{isOf};
+ghost use Rattle.text.specs.Promises.{CommentsPassed, TokenScanned, PartTaken, WordCompared, TokenShown};
 
 // The first token from a place on: the place of its first byte and the place after its last; or the end of the text.
 pub enum Scan {
@@ -78,7 +77,7 @@ fn run_end(text: &[u8], at: usize, kind: Kind) -> usize
 
 // The place after the comments at the start of the text.
 pub fn comments_end(text: &[u8]) -> usize
-    ensures { λ r. ⌜ r ≡ commentsEnd (now (text .entry)) ⌝ }
+    ensures { λ r. ⌜ CommentsPassed (now (text .entry)) r ⌝ }
 {
     let mut at = 0;
     while at < text.len() {
@@ -96,7 +95,7 @@ pub fn comments_end(text: &[u8]) -> usize
 
 // The first token from the place `at` on.
 pub fn next_token(text: &[u8], at: usize) -> Scan
-    ensures { λ r. ⌜ r ≡ scanOf (rest (now (text .entry)) at) ⌝ }
+    ensures { λ r. ⌜ TokenScanned (now (text .entry)) at r ⌝ }
 {
     let from = run_end(text, at, Kind::Gap);
     if from < text.len() {
@@ -129,15 +128,15 @@ pub fn line_of(text: &[u8], place: usize) -> usize
     line
 }
 
-// The part from .. to of the text, as far as the text goes.
+// The part from .. to of the text, as far as the text goes; one that would begin after its end is empty at that end.
 pub fn part(text: &[u8], from: usize, to: usize) -> &[u8]
-    ensures { λ r. ⌜ now r ≡ slice from to (now (text .entry)) ⌝ }
+    ensures { λ r. ⌜ PartTaken (text .entry) from to r ⌝ }
 {
-    let end = least(to, text.len());
-    if from < end {
-        &text[from..end]
+    let stop = least(to, text.len());
+    if from < stop {
+        &text[from..stop]
     } else {
-        &text[..0]
+        &text[stop..stop]
     }
 }
 
@@ -160,7 +159,7 @@ fn same_bytes(a: &[u8], b: &[u8]) -> bool
 
 // The token from .. to is the word, byte for byte, case included.
 pub fn is_word(text: &[u8], from: usize, to: usize, word: &[u8]) -> bool
-    ensures { λ r. ⌜ r ≡ same (slice from to (now (text .entry))) (now (word .entry)) ⌝ }
+    ensures { λ r. ⌜ WordCompared (slice from to (now (text .entry))) (now (word .entry)) r ⌝ }
 {
     same_bytes(part(text, from, to), word)
 }
@@ -183,7 +182,7 @@ fn begins_token(text: &[u8], place: usize) -> bool
 
 // Show a token: the token that begins at the place, as that part of the text itself; else an empty part at the text's end.
 pub fn show_token(text: &[u8], place: usize) -> &[u8]
-    ensures { λ r. ⌜ IsPart (text .entry) (shownFrom (now (text .entry)) place) (shownTo (now (text .entry)) place) r ⌝ }
+    ensures { λ r. ⌜ TokenShown (text .entry) place r ⌝ }
 {
     let end = text.len();
     if begins_token(text, place) {

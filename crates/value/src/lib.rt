@@ -14,7 +14,7 @@ ghost use Rattle.numerals.specs.Spelling.{isZero, mostDigits};
 ghost use Rattle.numerals.specs.Reading.{digitsOf, tailOf, unsignedForm, narrowed, outcomeOf};
 ghost use Rattle.numerals.specs.ValueRead.{ValueRead};
 ghost use Rattle.value.specs.Promise.{valueSays};
-ghost use Rattle.exponents.specs.Exponents.{room, PowerIs};
+ghost use Rattle.exponents.specs.Exponents.{room, powerSays, powerWithin};
 ghost use Rattle.value.specs.Runs.{Bounded, Appended, Longer, RunRead, noDigits, SignificantRead, Continued, WholeRead, Ended, PositiveRatio, ratioSays, wholeOutcome, scaledOutcome, WithTail, WithSignificant, Extended, Scaled, AfterPoint};
 use arithmetic::Arithmetic;
 use arithmetic::Fraction;
@@ -235,8 +235,8 @@ fn quotient_ratio(whole: Digits, token: &[u8], from: usize) -> Ratio
 
 // At most 18 digits, of which the first is not 0, times a power of ten.
 fn times_power(digits: Digits, x: Power) -> Ratio
-    requires { ⌜ (digits .count ≤ mostDigits) × (digits .number < 10 ^ digits .count) × ((z : ℤ) × PowerIs z x) ⌝ }
-    ensures { λ r. ⌜ PositiveRatio r × (10 ^ digits .count ≤ digits .number * 10 → (z : ℤ) → PowerIs z x → (s : Bool) → ratioSays s r ≡ scaledOutcome s (digits .number) z) ⌝ }
+    requires { ⌜ (digits .count ≤ mostDigits) × (digits .number < 10 ^ digits .count) × ((z : ℤ) × (powerSays x ≡ powerWithin z)) ⌝ }
+    ensures { λ r. ⌜ PositiveRatio r × (10 ^ digits .count ≤ digits .number * 10 → (z : ℤ) → powerSays x ≡ powerWithin z → (s : Bool) → ratioSays s r ≡ scaledOutcome s (digits .number) z) ⌝ }
 {
     match x {
         Power::Up(k) => whole_ratio(digits.appended(k, 0)),

@@ -75,19 +75,18 @@ read-lines text (refused reason place) h = line-bound text place h
 
 module _ {text : Bytes} {index : List ℕ} {values : List ℤ} {rows : List ℕ} {index′ : List ℕ} {values′ : List ℤ} {rows′ : List ℕ} {r : Reading} (h : CertificateRead text index values rows index′ values′ rows′ r) where
   read-answer : readReplied r ≡ readCourse text (courseOf text (length index) (length values) (length rows))
-  read-answer = ap readReply (h .equations .answer)
+  read-answer = ap readReply (h .answer)
 
   pub read-line : {reason : Refusal} {line : ℕ} → r ≡ read.Refused reason line → line ≤ 32769
   read-line e = line-small text index values rows readReplied (readCourse text) (λ n. refl) r read-answer (read-lines text) e
 
   pub read-returned : {returned line : ℕ} (a : Reading) → r ≡ a → reply returned line ≡ readReplied a → CertificateReturned text index values rows index′ values′ rows′ returned line
   read-returned a e q =
-      let s = h .equations in
       let p = q ∙ sym (ap readReplied e) in
       record {
         answer = p ∙ read-answer;
-        tables = record { index-table = s .index-table; value-table = s .value-table; row-table = s .row-table };
-        taken-exactly = returned-exactly text index values rows readReplied (readCourse text) (λ n. refl) r read-answer p (taken-zero r) (h .taken-exactly);
+        tables = h .tables;
+        taken-exactly = returned-exactly (readReplied r) p (taken-zero r) (h .taken-exactly);
         spelled-once = h .spelled-once;
         held = h .held;
       }
@@ -124,7 +123,7 @@ module _ {text : Bytes} {index : List ℕ} {values : List ℤ} {rows : List ℕ}
       let p = q ∙ sym (ap verifyReplied e) in
       record {
         answer = p ∙ verify-answer;
-        tables = record { index-table = h .index-table; value-table = h .value-table; row-table = h .row-table };
-        verified-exactly = returned-exactly text index values rows verifyReplied (verifyCourse text) (λ n. refl) r verify-answer p (verified-zero r) (h .verified-exactly);
+        tables = h .tables;
+        verified-exactly = returned-exactly (verifyReplied r) p (verified-zero r) (h .verified-exactly);
         verified-means = λ z. h .verified-means (verified-zero r .0 (sym (ap (λ (x : Reply). x .status) p) ∙ z));
       }

@@ -5,16 +5,16 @@ use mathlib.Core.Path.{_≡_}
 use mathlib.Core.List.{List}
 use mathlib.Core.Logic.{_↔_}
 use Prim.Native.Nat.{ℕ}
-use lib.IntN.{ℤ, pos}
+use lib.IntN.{ℤ}
 use lib.ListN.{length}
 use Rattle.text.specs.Bytes.{Bytes}
 use Rattle.grammar.specs.Tree.{Tree}
-use Rattle.grammar.specs.Tables.{indexTable, valueTable, rowTable}
 use Rattle.grammar.specs.Texts.{SpellsTree, Certificate, SpellsCertificate}
 use Rattle.rules.specs.Meets.{Meets}
 use Rattle.rules.specs.Sentence.Points.{SentenceOf}
 use Rattle.reader.specs.Promise as reading
-use Rattle.reader.specs.Promise.{courseOf, tableOf, Begun, Holds}
+use Rattle.reader.specs.Holds.{Holds}
+use Rattle.reader.specs.Promise.{courseOf, TablesLeft, Begun}
 use Rattle.checker.specs.Promise as checking
 
 -- ---- what is returned, and the line that is stored
@@ -36,14 +36,6 @@ abbrev pub verifyReply : checking.Answer → Reply
 verifyReply checking.verifies = reply 0 0
 verifyReply (checking.refuses reason line) = reply reason line
 
--- ---- the tables
-
--- the column "tables" of 01's table, for each of the three: untouched, all zero, or as read
-pub record TablesLeft (text : Bytes) (index : List ℕ) (values : List ℤ) (rows : List ℕ) (index′ : List ℕ) (values′ : List ℤ) (rows′ : List ℕ) : Type 0 where
-  pub index-table : index′ ≡ tableOf 0 indexTable index (courseOf text (length index) (length values) (length rows))
-  pub value-table : values′ ≡ tableOf (pos 0) valueTable values (courseOf text (length index) (length values) (length rows))
-  pub row-table : rows′ ≡ tableOf 0 rowTable rows (courseOf text (length index) (length values) (length rows))
-
 -- ---- the promises
 
 -- reading this text with these tables returns this number, stores this line and leaves these tables (marked ′)
@@ -56,7 +48,7 @@ pub record CertificateReturned (text : Bytes) (index : List ℕ) (values : List 
   -- "no text spells two"
   pub spelled-once : (c d : Certificate) → SpellsCertificate text c → SpellsCertificate text d → c ≡ d
   -- "the tables then hold the one it spells"
-  pub held : Begun text index values rows → (tree : Tree) → SpellsTree text tree → Holds text index′ values′ rows′ tree
+  pub held : Begun text index values rows → (c : Certificate) (s : SpellsCertificate text c) → Holds text index′ values′ rows′ c (s .tree)
 
 -- and so of verifying
 pub record VerificationReturned (text : Bytes) (index : List ℕ) (values : List ℤ) (rows : List ℕ) (index′ : List ℕ) (values′ : List ℤ) (rows′ : List ℕ) (returned line : ℕ) : Type 0 where

@@ -8,7 +8,8 @@ use native.Mathlib.Omega.{arith}
 use Rattle.arithmetic.proofs.add_product_whole.Statement.{statement}
 use Rattle.arithmetic.proofs.add_product_whole.Tie as tie
 use Rattle.integers.specs.Signs.{withSign, sign-magnitude}
-use Rattle.integers.proofs.Casts.{back, back64-of, below-zero}
+use mir.Syntax.{w64}
+use Rattle.integers.proofs.Casts.{back, back-at, below-zero}
 use Rattle.arithmetic.specs.Outcome.{Outcome}
 use Rattle.arithmetic.specs.Fraction.{limit, within, after}
 use Rattle.arithmetic.specs.Parts.{over}
@@ -21,7 +22,7 @@ product-of : (k : tie.After-whole-product) → read-wide (k .whole-product .resu
 product-of k =
     let x = k .whole-product in
     let s = k .before in
-    back64-of (x .result) (x .ok) ∙ x .ensures ∙ (rw (back (s .fits .n), back (s .fits .m)))
+    back-at w64 (x .result) (x .ok) ∙ x .ensures ∙ (rw (back (s .fits .n), back (s .fits .m)))
 
 magnitude-of : (k : tie.After-magnitude-wide) → k .magnitude-wide .result ≡ natAbs (k .before .before .args .n *ℤ k .before .before .args .m)
 magnitude-of k = k .magnitude-wide .ensures ∙ ap natAbs (product-of (k .before))
@@ -30,7 +31,7 @@ sum-of : (k : tie.After-whole-sum) → let s = k .before .before .before .before
 sum-of k =
     let x = k .whole-sum in
     let m = k .before .before .before in
-    back64-of (x .result) (x .ok) ∙ x .ensures ∙ (rw (back (m .before .fits .s), product-of m))
+    back-at w64 (x .result) (x .ok) ∙ x .ensures ∙ (rw (back (m .before .fits .s), product-of m))
 
 returns : tie.Need-returns
 returns c =

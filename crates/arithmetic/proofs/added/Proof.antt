@@ -9,7 +9,7 @@ use mir.Val.{SFits}
 use Rattle.arithmetic.proofs.added.Statement.{statement}
 use Rattle.arithmetic.proofs.added.Tie as tie
 use Rattle.integers.specs.Signs.{withSign, sign-magnitude}
-use Rattle.integers.proofs.Casts.{back64-of, sum-fits, below-zero}
+use Rattle.integers.proofs.Casts.{back-at, sum-fits, below-zero}
 use Rattle.arithmetic.specs.Parts.{over}
 use Rattle.arithmetic.proofs.Ways.{read-wide}
 
@@ -21,13 +21,13 @@ fits : (c : tie.After-cross2) → SFits w64 (total c)
 fits c =
     let x = c .before .cross in
     let y = c .cross2 in
-    rw (back64-of (x .result) (x .ok), back64-of (y .result) (y .ok)) (sum-fits (x .result) (y .result) (x .ensures .1) (y .ensures .1))
+    rw (back-at w64 (x .result) (x .ok), back-at w64 (y .result) (y .ok)) (sum-fits (x .result) (y .result) (x .ensures .1) (y .ensures .1))
 
 total-is : (c : tie.After-cross2) → let s = c .before .before in total c ≡ s .args .a .num *ℤ pos (natAbs (s .args .b .den)) +ℤ s .args .b .num *ℤ pos (natAbs (s .args .a .den))
 total-is c =
     let x = c .before .cross in
     let y = c .cross2 in
-    ap₂ _+ℤ_ (back64-of (x .result) (x .ok) ∙ x .ensures .0) (back64-of (y .result) (y .ok) ∙ y .ensures .0)
+    ap₂ _+ℤ_ (back-at w64 (x .result) (x .ok) ∙ x .ensures .0) (back-at w64 (y .result) (y .ok) ∙ y .ensures .0)
 
 add-t : tie.Need-add-t
 add-t c = fits c

@@ -6,7 +6,8 @@ use lib.IntN.{ℤ, pos, natAbs, _*ℤ_}
 use lib.Signed.{mag}
 use Rattle.arithmetic.proofs.cross.Statement.{statement}
 use Rattle.arithmetic.proofs.cross.Tie as tie
-use Rattle.integers.proofs.Casts.{back64-of, natAbs-small, product-mag}
+use mir.Syntax.{w64}
+use Rattle.integers.proofs.Casts.{back-at, natAbs-small, product-mag}
 use Rattle.arithmetic.proofs.Ways.{Told, read-wide, cross-read}
 
 told-a : (c : tie.Start) → Told (c .args .a)
@@ -19,7 +20,7 @@ product-is : (c : tie.After-wide-signed) → let s = c .before .before .before .
 product-is c =
     let s = c .before .before .before .before in
     let w = c .wide-signed in
-    back64-of (w .result) (w .ok) ∙ cross-read (s .args .a) (s .args .b) _ (w .result) (told-a s) (told-b s) (c .before .before .magnitude .ensures) (w .ensures)
+    back-at w64 (w .result) (w .ok) ∙ cross-read (s .args .a) (s .args .b) _ (w .result) (told-a s) (told-b s) (c .before .before .magnitude .ensures) (w .ensures)
 
 returns : tie.Need-returns
 returns c =

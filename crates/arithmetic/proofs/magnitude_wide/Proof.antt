@@ -9,7 +9,8 @@ use mir.Facts.{toZ-ofZ}
 use Rattle.arithmetic.proofs.magnitude_wide.Statement.{statement}
 use Rattle.arithmetic.proofs.magnitude_wide.Tie as tie
 use Rattle.integers.specs.Signs.{isNegative, natAbs-mag}
-use Rattle.integers.proofs.Casts.{Negative, negative, minus-negation, back64-of, neg-fits, pos-nonNeg, below-zero}
+use mir.Syntax.{w64}
+use Rattle.integers.proofs.Casts.{Negative, negative, minus-negation, back-at, neg-fits, pos-nonNeg, below-zero}
 use Rattle.arithmetic.proofs.Ways.{read-wide}
 
 below : (c : tie.Then1) → Negative (c .before .args .x)
@@ -27,14 +28,14 @@ negated c = pos 0 -ℤ read-wide (read-wide (c .before .args .x) +ℤ pos 1)
 
 negated-is : (c : tie.Then1) → negated c ≡ pos (below c .rest)
 negated-is c =
-    let n = neg-fits (pos (below c .rest)) (below c .small) in
+    let n = neg-fits w64 (pos (below c .rest)) (below c .small) in
     rw (next-is c, toZ-ofZ n, minus-negation (below c .rest))
 
 read-negated : (c : tie.Then1) → read-wide (negated c) ≡ pos (below c .rest)
-read-negated c = ap read-wide (negated-is c) ∙ back64-of (pos (below c .rest)) (omega (arith, below c .small))
+read-negated c = ap read-wide (negated-is c) ∙ back-at w64 (pos (below c .rest)) (omega (arith, below c .small))
 
 add-result : tie.Need-add-result
-add-result c = rw (next-is c) (neg-fits (pos (below c .rest)) (below c .small))
+add-result c = rw (next-is c) (neg-fits w64 (pos (below c .rest)) (below c .small))
 
 sub-result : tie.Need-sub-result
 sub-result c = rw (negated-is c) (record { sfits = omega (arith, below c .small) })

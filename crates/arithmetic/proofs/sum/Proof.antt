@@ -8,7 +8,7 @@ use Rattle.arithmetic.proofs.sum.Statement.{statement}
 use Rattle.arithmetic.proofs.sum.Tie as tie
 use Rattle.arithmetic.specs.Quotient.{_+Q_, lowest}
 use Rattle.arithmetic.specs.Fraction.{IsFraction, exact, within, sumOf}
-use Rattle.arithmetic.specs.Meaning.{are-both, exact-positive}
+use Rattle.arithmetic.specs.Meaning.{are-both, exact-positive, parts-coprime}
 use Rattle.arithmetic.specs.declared.Fraction.{Fraction}
 use Rattle.arithmetic.proofs.Ways.{Told, on-fractions, reduced-exact, one-read}
 use Rattle.arithmetic.proofs.Lowest.{sum-lowest}
@@ -25,7 +25,7 @@ module _ (a b : Fraction) (v : IsFraction a) (w : IsFraction b) where
 
   -- no common divisor is to be divided out
   apart : Coprime (natAbs (a .den)) (natAbs (b .den)) → within (exact a +Q exact b) ≡ sumOf a b
-  apart h = ap within (sum-lowest (exact a) (exact b) (exact-positive a v) (exact-positive b w) (v .lowest-terms) (w .lowest-terms) h) ∙ known
+  apart h = ap within (sum-lowest (exact a) (exact b) (exact-positive a v) (exact-positive b w) (parts-coprime a v) (parts-coprime b w) h) ∙ known
 
 returns : tie.Need-returns
 returns c = λ v w.

@@ -4,8 +4,10 @@ use mathlib.Core.Bool.{Bool, true, _&&_}
 use borrow.Author.Needs.{needs}
 use Rattle.arithmetic.specs.Quotient.{Quotient, lowest}
 use Rattle.arithmetic.specs.Fraction.{isFraction, within, onFractions}
+use Rattle.arithmetic.specs.Meaning.{sum-means}
 use Rattle.arithmetic.specs.Parts.{isShaped}
 use Rattle.arithmetic.proofs.Ways.{Told}
+use Rattle.fraction.proofs.Promised.{meant}
 use Rattle.fraction.proofs.Tested.{of-shaped, of-unshaped, denominators-positive}
 use Rattle.fraction.proofs.Divided.{sum-result}
 use Rattle.fraction.proofs.sum.Statement.{statement}
@@ -29,13 +31,14 @@ returns : tie.Need-returns
 returns c =
     let k = c .before in
     let s = k .before .before .before in
-    c .lowest-result .ensures ∙ of-shaped (s .args .a) (s .args .b) (told-a s) (told-b s) _ (shaped (k .before))
-    ∙ ap (λ (x : Quotient). onFractions (isFraction (s .args .a) && isFraction (s .args .b)) (within (lowest x))) (k .added .ensures)
+    meant (sum-means (s .args .a) (s .args .b))
+    (c .lowest-result .ensures ∙ of-shaped (s .args .a) (s .args .b) (told-a s) (told-b s) _ (shaped (k .before))
+    ∙ ap (λ (x : Quotient). onFractions (isFraction (s .args .a) && isFraction (s .args .b)) (within (lowest x))) (k .added .ensures))
 
 returns-2 : tie.Need-returns-2
 returns-2 c =
     let s = c .before .before in
-    sym (of-unshaped (s .args .a) (s .args .b) (told-a s) (told-b s) _ (sym (c .before .both-shaped .ensures) ∙ c .if1 .left))
+    meant (sum-means (s .args .a) (s .args .b)) (sym (of-unshaped (s .args .a) (s .args .b) (told-a s) (told-b s) _ (sym (c .before .both-shaped .ensures) ∙ c .if1 .left)))
 
 pub sum-spec : {M : Type 1} → statement M
 sum-spec = tie.close (tie.spec (λ c. search needs) (λ c. search needs) lowest-result-requires returns returns-2)

@@ -9,7 +9,7 @@ returns : tie.Need-returns
 returns c =
     let p = c .before .before in
     let f = p .before .fits in
-    of-one (c .store-whole .ensures) ceilingOf (f .num) (f .den) (p .ceiling .ensures)
+    of-one (c .store-whole .ensures) ceilingOf (f .num) (f .den) (p .ceiling .ensures .equation)
 
 pub fraction-ceiling-spec : {M : Type 1} → statement M
 fraction-ceiling-spec = tie.close (tie.spec (λ c. search needs) (λ c. search needs) returns)

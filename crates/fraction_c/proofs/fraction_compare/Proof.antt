@@ -11,7 +11,7 @@ returns : tie.Need-returns
 returns c =
     let p = c .before .before in
     let f = p .before .fits in
-    of-two (c .store-order .ensures) (λ a b. signOf (compareOf a b)) (f .a-num) (f .a-den) (f .b-num) (f .b-den) (ap signOf (p .compare .ensures))
+    of-two (c .store-order .ensures) (λ a b. signOf (compareOf a b)) (f .a-num) (f .a-den) (f .b-num) (f .b-den) (ap signOf (p .compare .ensures .equation))
 
 pub fraction-compare-spec : {M : Type 1} → statement M
 fraction-compare-spec = tie.close (tie.spec (λ c. search needs) (λ c. search needs) returns)

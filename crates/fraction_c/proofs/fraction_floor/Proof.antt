@@ -9,7 +9,7 @@ returns : tie.Need-returns
 returns c =
     let p = c .before .before in
     let f = p .before .fits in
-    of-one (c .store-whole .ensures) floorOf (f .num) (f .den) (p .floor .ensures)
+    of-one (c .store-whole .ensures) floorOf (f .num) (f .den) (p .floor .ensures .equation)
 
 pub fraction-floor-spec : {M : Type 1} → statement M
 fraction-floor-spec = tie.close (tie.spec (λ c. search needs) (λ c. search needs) returns)

@@ -9,7 +9,7 @@ returns : tie.Need-returns
 returns c =
     let p = c .before .before .before in
     let f = p .before .fits in
-    of-two (c .store .ensures) productOf (f .a-num) (f .a-den) (f .b-num) (f .b-den) (p .product .ensures)
+    of-two (c .store .ensures) productOf (f .a-num) (f .a-den) (f .b-num) (f .b-den) (p .product .ensures .equation)
 
 pub fraction-product-spec : {M : Type 1} → statement M
 fraction-product-spec = tie.close (tie.spec (λ c. search needs) (λ c. search needs) returns)

@@ -9,7 +9,7 @@ returns : tie.Need-returns
 returns c =
     let p = c .before .before .before in
     let f = p .before .fits in
-    of-two (c .store .ensures) sumOf (f .a-num) (f .a-den) (f .b-num) (f .b-den) (p .sum .ensures)
+    of-two (c .store .ensures) sumOf (f .a-num) (f .a-den) (f .b-num) (f .b-den) (p .sum .ensures .equation)
 
 pub fraction-sum-spec : {M : Type 1} → statement M
 fraction-sum-spec = tie.close (tie.spec (λ c. search needs) (λ c. search needs) returns)

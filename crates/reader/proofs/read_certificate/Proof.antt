@@ -13,7 +13,8 @@ use Rattle.symbol_reader.proofs.Laws.{not-true, not-false}
 use Rattle.reader.specs.Promise.{Begun}
 use Rattle.reader.specs.Documents.{startOf, ReadsToEnd}
 use Rattle.reader.proofs.Whole.{start-room, reads-to-end}
-use Rattle.reader.proofs.Demand.{small-table, long-text, begun-by, taken-equations, refused-equations, promised}
+use Rattle.reader.proofs.Courses.{begun-by}
+use Rattle.reader.proofs.Demand.{small-table, long-text, taken-equations, refused-equations, promised}
 
 -- the places on the way, from where the end was read
 abbrev cleared : tie.After-read-end → tie.After-clear
@@ -29,7 +30,8 @@ begun : (k : tie.After-clear) → Begun (start k .args .text .now) (start k .arg
 begun k =
     let s = tested k in
     let i = s .before .before in
-    begun-by (sym (i .before .has-cells .ensures) ∙ not-false _ (i .if1 .left)) (sym (s .before .is-short .ensures) ∙ not-false _ (s .if2 .left))
+    begun-by (start k .args .text .now) (start k .args .index .now) (start k .args .values .now) (start k .args .rows .now)
+    (sym (i .before .has-cells .ensures) ∙ not-false _ (i .if1 .left)) (sym (s .before .is-short .ensures) ∙ not-false _ (s .if2 .left))
 
 -- the text was read to its end, into cleared tables
 ended : (c : tie.After-read-end) → let d = c .before .before .before .before .before .before .before in let k = cleared c .clear .last in

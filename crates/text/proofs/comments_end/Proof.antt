@@ -9,6 +9,7 @@ use native.Mathlib.Omega.{arith}
 use lib.ListN.{length, drop}
 use Rattle.text.specs.Comments.{commentBytes, commentsEnd}
 use Rattle.text.proofs.Turns.{comment-first, comment-past, comment-none, CommentLine, line-ahead, line-inside, comment-last, comment-more}
+use Rattle.text.proofs.Promised.{comments-passed}
 use Rattle.text.proofs.comments_end.Statement.{statement}
 use Rattle.text.proofs.comments_end.Tie as tie
 
@@ -31,10 +32,11 @@ loop-holds c = comment-first (c .before .args .text .now)
 returns : tie.Need-returns Inv-loop μ-loop
 returns c =
     let l = c .before .before .before in
-    omega (arith, l .loop .inv, comment-none (l .before .before .args .text .now) (l .loop .at) (c .before .before .loop-test .taken) (c .if1 .taken))
+    let text = l .before .before .args .text .now in
+    comments-passed text (omega (arith, l .loop .inv, comment-none text (l .loop .at) (c .before .before .loop-test .taken) (c .if1 .taken)))
 
 returns-2 : tie.Need-returns-2 Inv-loop μ-loop
-returns-2 c = sym (comment-last (this-line (c .before)) (c .if2 .taken)) ∙ at-loop (c .before) .loop .inv
+returns-2 c = comments-passed _ (sym (comment-last (this-line (c .before)) (c .if2 .taken)) ∙ at-loop (c .before) .loop .inv)
 
 add-at : tie.Need-add-at Inv-loop μ-loop
 add-at c = omega (arith, line-inside (this-line (c .before)))
@@ -48,7 +50,8 @@ loop-again c = sym (comment-more (this-line (c .before)) (c .if2 .left)) ∙ at-
 returns-3 : tie.Need-returns-3 Inv-loop μ-loop
 returns-3 c =
     let l = c .before in
-    omega (arith, l .loop .inv, comment-past (l .before .before .args .text .now) (l .loop .at) (c .loop-test .left))
+    let text = l .before .before .args .text .now in
+    comments-passed text (omega (arith, l .loop .inv, comment-past text (l .loop .at) (c .loop-test .left)))
 
 pub comments-end-spec : {M : Type 1} → statement M
 comments-end-spec = tie.close (tie.spec Inv-loop μ-loop loop-holds (λ c. search needs) returns (λ c. search needs) returns-2

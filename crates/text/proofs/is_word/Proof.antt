@@ -3,12 +3,14 @@
 use mathlib.Core.Path.{ap, _∙_}
 use borrow.Author.Needs.{needs}
 use Rattle.text.specs.Bytes.{Bytes, same}
+use Rattle.text.proofs.Promised.{word-compared}
 use Rattle.text.proofs.is_word.Statement.{statement}
 use Rattle.text.proofs.is_word.Tie as tie
 
 returns : tie.Need-returns
 returns c =
-    c .same-bytes .ensures ∙ ap (λ (w : Bytes). same w (c .before .before .before .before .args .word .now)) (c .before .part .ensures)
+    let word = c .before .before .before .before .args .word .now in
+    word-compared _ word (c .same-bytes .ensures ∙ ap (λ (w : Bytes). same w word) (c .before .part .ensures .bytes))
 
 pub is-word-spec : {M : Type 1} → statement M
 is-word-spec = tie.close (tie.spec (λ c. search needs) (λ c. search needs) returns)

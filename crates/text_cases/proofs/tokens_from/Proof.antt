@@ -23,7 +23,7 @@ token-found : (c : tie.After-token Inv-loop μ-loop)
     (c .before .before .from .given .0 .0) (c .before .before .from .given .0 .1 .0)
 token-found c =
     let n = c .before .before .before .before in
-    found (n .before .before .before .before .args .text .now) (n .before .before .loop .next) (sym (n .next-token .ensures) ∙ c .before .before .from .given .1)
+    found (n .before .before .before .before .args .text .now) (n .before .before .loop .next) (sym (n .next-token .ensures .by-definition) ∙ c .before .before .from .given .1)
 
 add-next : tie.Need-add-next Inv-loop μ-loop
 add-next c = omega (arith, token-found c .inside)

@@ -9,7 +9,8 @@ use mir.Syntax.{w32}
 use mir.Val.{SFits}
 use mir.Facts.{toZ-ofZ}
 use Rattle.integers.specs.Signs.{natAbs-neg}
-use Rattle.integers.proofs.Casts.{back, widen, back64, below-zero, zero-minus, neg-fits, natAbs-fits, natAbs-small, neg-nonNeg, pos-nonNeg}
+use mir.Syntax.{w64}
+use Rattle.integers.proofs.Casts.{back, widen, below-zero, zero-minus, neg-fits, natAbs-fits, natAbs-small, neg-nonNeg, pos-nonNeg}
 use Rattle.value_cases.proofs.number.Statement.{statement}
 use Rattle.value_cases.proofs.number.Tie as tie
 
@@ -23,21 +24,21 @@ sub-print-decimal : tie.Need-sub-print-decimal
 sub-print-decimal c =
     let at-start = c .before .before .before in
     let f = at-start .fits .x in
-    rw (back f, back64 f, zero-minus) (neg-fits (at-start .args .x) (small (at-start .args .x) f))
+    rw (back f, back (widen f), zero-minus) (neg-fits w64 (at-start .args .x) (small (at-start .args .x) f))
 
 cast-print-decimal : tie.Need-cast-print-decimal
 cast-print-decimal c =
     let at-start = c .before .before .before in
     let x = at-start .args .x in
     let f = at-start .fits .x in
-    rw (back f, back64 f, zero-minus, toZ-ofZ (neg-fits x (small x f)), natAbs-neg)
-    (neg-nonNeg x (sym (below-zero x) ∙ (rw (back f, back64 f) at (c .before .before .if1 .taken))), natAbs-fits x (small x f))
+    rw (back f, back (widen f), zero-minus, toZ-ofZ (neg-fits w64 x (small x f)), natAbs-neg)
+    (neg-nonNeg x (sym (below-zero x) ∙ (rw (back f, back (widen f)) at (c .before .before .if1 .taken))), natAbs-fits x (small x f))
 
 cast-print-decimal-2 : tie.Need-cast-print-decimal-2
 cast-print-decimal-2 c =
     let x = c .before .args .x in
     let f = c .before .fits .x in
-    rw (back f, back64 f) (pos-nonNeg x (sym (below-zero x) ∙ (rw (back f, back64 f) at (c .if1 .left))), natAbs-fits x (small x f))
+    rw (back f, back (widen f)) (pos-nonNeg x (sym (below-zero x) ∙ (rw (back f, back (widen f)) at (c .if1 .left))), natAbs-fits x (small x f))
 
 pub number-spec : {M : Type 1} → statement M
 number-spec = tie.close (tie.spec cast-w (λ c. search needs) (λ c. search needs) sub-print-decimal cast-print-decimal

@@ -5,7 +5,7 @@ use Rattle.vipr_c.proofs.vipr_show_token.Tie as tie
 use Rattle.vipr_c.proofs.ShownLaws.{token-measured}
 
 returns : tie.Need-returns
-returns c = token-measured _ _ (c .show-token .ensures .bytes)
+returns c = token-measured _ _ (c .show-token .ensures .by-definition .bytes)
 
 pub vipr-show-token-spec : {M : Type 1} → statement M
 vipr-show-token-spec = tie.close (tie.spec (λ c. search needs) returns)

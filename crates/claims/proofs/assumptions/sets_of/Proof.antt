@@ -57,8 +57,8 @@ loop-again c =
 
 returns : tie.Need-returns Inv-loop μ-loop
 returns c =
-    λ tree values e r lt.
-    sets-end e (c .before .loop .inv .2 tree values e) (omega (arith, c .loop-test .left, c .before .before .in-array .ensures)) r lt
+    λ tree values e r.
+    sets-end e (c .before .loop .inv .2 tree values e) (omega (arith, c .loop-test .left, c .before .before .in-array .ensures)) r
 
 pub sets-of-spec : {M : Type 1} → statement M
 sets-of-spec = tie.close (tie.spec Inv-loop μ-loop (λ c. search needs) loop-holds (λ c. search needs) mul-all array-write-all

@@ -19,7 +19,7 @@ returns-2 c =
     let lt = m .before .before .before .if1 .left in
     λ tree e ok.
     let k = e .row (m .before .before .before .before .before .before .before .args .header .rows - 1) (omega (arith, lt)) in
-    both-pass (m .meets .ensures tree _ _ e (m .before .row-at .ensures tree _ k) (k .formed) ok) (c .before .if2 .taken) (c .is-free .ensures tree _ e (omega (arith, lt)))
+    both-pass (m .meets .ensures tree _ _ e (m .before .row-at .ensures tree _ k) (k .formed) ok) (c .before .if2 .taken) (c .is-free .ensures tree _ e)
     ∙ last-passes e (meets tree (askedSays tree (m .before .before .before .before .before .before .before .args .asked))) lt
 
 returns-3 : tie.Need-returns-3

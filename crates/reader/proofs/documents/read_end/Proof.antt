@@ -13,14 +13,14 @@ returns-2 c =
     let t = c .before .before in
     let s = t .before .before in
     let text = s .before .before .before .args .text .now in
-    end-by text (s .s .given .1) (token-missing text (s .s .given .0 .1 .0 .at) (t .next-token .ensures) (c .enum-told2 .given .1))
+    end-by text (s .s .given .1) (token-missing text (s .s .given .0 .1 .0 .at) (t .next-token .ensures .by-definition) (c .enum-told2 .given .1))
 
 returns-3 : tie.Need-returns-3
 returns-3 c =
     let t = c .before .before .before in
     let s = t .before .before in
     let text = s .before .before .before .args .text .now in
-    end-by text (s .s .given .1) (token-found text (s .s .given .0 .1 .0 .at) (t .next-token .ensures) (c .before .from .given .1) .first)
+    end-by text (s .s .given .1) (token-found text (s .s .given .0 .1 .0 .at) (t .next-token .ensures .by-definition) (c .before .from .given .1) .first)
 
 pub read-end-spec : {M : Type 1} → statement M
 read-end-spec = tie.close (tie.spec (λ c. search needs) (λ c. search needs) returns (λ c. search needs) (λ c. search needs)

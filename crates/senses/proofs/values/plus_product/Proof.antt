@@ -5,6 +5,7 @@ use borrow.Author.Needs.{needs}
 use Rattle.arithmetic.specs.declared.Fraction.{Fraction}
 use Rattle.arithmetic.specs.Outcome.{Outcome, gives, refuses}
 use Rattle.arithmetic.specs.Fraction.{productOf, sumOf, after}
+use Rattle.arithmetic.specs.Meaning.{product-then-sum}
 use Rattle.rules.specs.Result.{bind}
 use Rattle.rules.specs.Values.{within12, sumAt}
 use Rattle.senses.proofs.values.plus_product.Statement.{statement}
@@ -18,7 +19,8 @@ returns : tie.Need-returns
 returns c =
     λ u v w place.
     let s = c .before in
-    ap (within12 place) (c .add-product .ensures u v w) ∙ in-two place (s .args .sum) (productOf (s .args .a) (s .args .b))
+    ap (within12 place) (c .add-product .ensures (search needs) (search needs) (search needs) ∙ product-then-sum (s .args .sum) (s .args .a) (s .args .b) (u, v, w))
+    ∙ in-two place (s .args .sum) (productOf (s .args .a) (s .args .b))
 
 pub plus-product-spec : {M : Type 1} → statement M
 plus-product-spec = tie.close (tie.spec (λ c. search needs) returns)

@@ -48,7 +48,7 @@ module _ (c : tie.After-is-word Inv-loop μ-loop) where
   cell k = getD (start .args .rows .now) k 0
 
   is-name : c .is-word .result ≡ same token (nameAt (start .args .text .now) (cell (4 * at-loop .loop .i)) (cell (4 * at-loop .loop .i + 1)))
-  is-name = c .is-word .ensures ∙ ap (same token) (c .before .part .ensures)
+  is-name = c .is-word .ensures .by-definition ∙ ap (same token) (c .before .part .ensures .bytes)
 
 returns : tie.Need-returns Inv-loop μ-loop
 returns c = name-here _ _ _ _ _ (at-loop (c .before) .loop .inv) (omega arith) (omega arith) (sym (is-name (c .before)) ∙ c .if1 .taken)

@@ -7,7 +7,7 @@ use lib.Seq.{slice}
 use Rattle.symbol_reader.proofs.names.is_used.Statement.{statement}
 use Rattle.symbol_reader.proofs.names.is_used.Tie as tie
 use Rattle.text.specs.Bytes.{same}
-use Rattle.grammar.specs.Spelling.{isAmong}
+use Rattle.grammar.specs.Reading.{isAmong}
 use Rattle.symbol_reader.specs.Leaves.{tokenAt, namesIn}
 use Rattle.symbol_reader.specs.Marks.{marked}
 use Rattle.symbol_reader.proofs.Fingerprints.{none-of-them, names-there}

@@ -35,7 +35,7 @@ returns-2 c =
     let s = i .before .before .before .before .before in
     λ prints.
     name-used (s .args .row) (used s) print (here s) (sym (i .before .is-name .ensures) ∙ not-false _ (i .if1 .left))
-    (sym (u .is-used .ensures (f .fingerprint .ensures ∙ ap fingerprintOf (p .part .ensures)) prints) ∙ c .if2 .taken)
+    (sym (u .is-used .ensures (f .fingerprint .ensures ∙ ap fingerprintOf (p .part .ensures .bytes)) prints) ∙ c .if2 .taken)
 
 returns-3 : tie.Need-returns-3
 returns-3 c =
@@ -44,7 +44,7 @@ returns-3 c =
     let p = f .before in
     let i = p .before in
     let s = i .before .before .before .before .before in
-    let e = f .fingerprint .ensures ∙ ap fingerprintOf (p .part .ensures) in
+    let e = f .fingerprint .ensures ∙ ap fingerprintOf (p .part .ensures .bytes) in
     λ prints.
     name-taken (s .args .row) (used s) print (here s) (sym (i .before .is-name .ensures) ∙ not-false _ (i .if1 .left)) (sym (u .is-used .ensures e prints) ∙ c .if2 .left) (sym e)
 

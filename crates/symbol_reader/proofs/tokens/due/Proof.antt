@@ -15,13 +15,13 @@ returns-2 : tie.Need-returns-2
 returns-2 c =
     let n = c .before .before in
     let a = n .before .before .s in
-    record { first = given-by (a .given .1) (inr (token-missing _ _ (n .next-token .ensures) (c .enum-told2 .given .1), refl, refl)); ordered = omega arith; inside = omega arith }
+    record { first = given-by (a .given .1) (inr (token-missing _ _ (n .next-token .ensures .by-definition) (c .enum-told2 .given .1), refl, refl)); ordered = omega arith; inside = omega arith }
 
 returns-3 : tie.Need-returns-3
 returns-3 c =
     let n = c .before .before .before in
     let a = n .before .before .s in
-    let f = token-found _ _ (n .next-token .ensures) (c .before .scan .given .1) in
+    let f = token-found _ _ (n .next-token .ensures .by-definition) (c .before .scan .given .1) in
     record { first = given-by (a .given .1) (inl f); ordered = omega (arith, f .not-empty); inside = f .inside }
 
 pub due-spec : {M : Type 1} → statement M

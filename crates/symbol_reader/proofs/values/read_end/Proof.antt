@@ -43,7 +43,7 @@ returns c =
     let d = w .before in
     let a = d .before .before .before .before .args in
     let t = tokenAt (a .text .now) (d .due .result) in
-    let e = sym (w .is-word .ensures) ∙ p .before .if1 .taken in
+    let e = sym (w .is-word .ensures .by-definition) ∙ p .before .if1 .taken in
     let test = tested (d .due .ensures) (λ filled. or-instead (a .word .now) 0 (value (1 ∷ [])) (λ f. 1) t e) (p .passed .ensures) in (
       λ rs. filled-follows test (λ x k e d. e) (a-cell (a .word .now)) (instead-no-value (a .word .now) 0 (value (1 ∷ [])) (λ f. 1) t e) (no-mark (a .word .now)) (f .filled .ensures),
       stored-refuses test (f .filled .ensures) (λ c found. ⊎-elim (λ h. h) (λ h. absurd (is-first (a .word .now) found e (h .1)))) (λ k. (k, refl)),
@@ -62,8 +62,8 @@ returns-2 c =
     let a = d .before .before .before .before .args in
     let t = tokenAt (a .text .now) (d .due .result) in
     let v = r .read-value .result in
-    let e = sym (w .is-word .ensures) ∙ o .if1 .left in
-    let read = r .read-value .ensures .by-definition ∙ ap readValue (r .before .part .ensures) in
+    let e = sym (w .is-word .ensures .by-definition) ∙ o .if1 .left in
+    let read = r .read-value .ensures .by-definition ∙ ap readValue (r .before .part .ensures .bytes) in
     let test = tested (d .due .ensures) (λ filled. or-given (a .word .now) 0 (value (1 ∷ [])) (λ f. 1) t e (value-means (1 ∷ []) t v read (m .value-in .ensures))) (p .passed2 .ensures) in (
       λ rs. ended-follows test (a-cell (a .word .now)) (value-given (1 ∷ []) t v read (f .fraction-of .ensures) (a .word .now) 0 e) (no-mark (a .word .now)) (n .ended .ensures),
       stored-refuses test (n .ended .ensures) (λ c found. ⊎-elim (λ h. inl h) (λ h. inr (h .0))) (λ k. (ap (λ (x : (ix : List ℕ) × List ℤ). x .0) k, ap (λ (x : (ix : List ℕ) × List ℤ). x .1) k)),

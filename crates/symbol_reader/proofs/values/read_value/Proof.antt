@@ -19,7 +19,7 @@ returns c =
     let d = r .before .before in
     let a = r .read-value .result in
     let t = tokenAt (d .before .before .args .text .now) (d .due .result) in
-    let read = r .read-value .ensures .by-definition ∙ ap readValue (r .before .part .ensures) in
+    let read = r .read-value .ensures .by-definition ∙ ap readValue (r .before .part .ensures .bytes) in
     let test = tested (d .due .ensures) (λ filled. value-means [] t a read (m .value-in .ensures)) (p .passed .ensures) in (
       λ ix rs. valued-follows test (λ g. refl) (value-kept [] t a read (f .fraction-of .ensures)) (λ g i v. refl) (v .valued .ensures),
       stored-refuses test (v .valued .ensures) (λ c found h. h) (λ e. e),

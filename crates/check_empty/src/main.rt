@@ -1,0 +1,4 @@
+// No bytes: the program prints `refused 3 1`.
+fn main() {
+    program::run();
+}

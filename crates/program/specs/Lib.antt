@@ -1,0 +1,4 @@
+-- What the program promises.
+pub mod Line
+pub mod Input
+pub mod Transcript
