@@ -1,5 +1,6 @@
 // Reads the certificates of standard input, which are on either side of each rule of reading, and writes what Read a certificate
-// answers; of 01's example also the tables. Then tables and a text of other sizes.
+// answers; of a certificate of 1,024 rows also cells of the tables. Then 01's example with its tables, and tables and a text of
+// other sizes.
 ghost use Prim.Native.Nat.{_≤_};
 ghost use lib.ListN.{length};
 use reader::Reading;
@@ -25,6 +26,28 @@ fn cells(table: &[u16], from: usize, to: usize) {
     while i < to {
         if i < table.len() {
             cell(table[i]);
+        }
+        i += 1;
+    }
+    put(b"\n");
+}
+
+// A cell of the value table; of a negative number only the sign.
+fn value_cell(n: i32) {
+    put(b" ");
+    if n < 0 {
+        put(b"-");
+    } else {
+        io::print_decimal(1, n as u64);
+    }
+}
+
+// The cells from .. to of the value table.
+fn value_cells(table: &[i32], from: usize, to: usize) {
+    let mut i = from;
+    while i < to {
+        if i < table.len() {
+            value_cell(table[i]);
         }
         i += 1;
     }
@@ -98,13 +121,46 @@ fn answer(r: Reading) {
     }
 }
 
+// Eight cells of a table from a cell on.
+fn eight(table: &[u16], at: u16) {
+    let from = at as usize;
+    cells(table, from, from + 8);
+}
+
+// A certificate of 1,024 rows was taken.
+fn has_all_rows(r: Reading) -> bool {
+    match r {
+        Reading::Taken(h) => h.rows == 1024,
+        Reading::Refused(_reason, _line) => false,
+    }
+}
+
+// Of such a certificate: the first cells of the index table and those of the last row; of the row table rows 0 and 1, 511 and 512,
+// 1,022 and 1,023, and the first solution; and cells of the value table.
+fn chosen(index: &[u16], values: &[i32], rows: &[u16]) {
+    cells(index, 0, 12);
+    if 4094 < rows.len() {
+        eight(index, rows[4094]);
+    }
+    cells(rows, 0, 8);
+    cells(rows, 2044, 2052);
+    cells(rows, 4088, 4100);
+    value_cells(values, 0, 8);
+    value_cells(values, 2044, 2052);
+    value_cells(values, 3584, 3600);
+}
+
 // Reads a text into tables of the cells needed that are not empty, and writes the answer under a name.
 fn case(name: &[u8], text: &[u8]) {
     let mut index = [7u16; 16384];
     let mut values = [7i32; 16384];
     let mut rows = [7u16; 4352];
     put(name);
-    answer(reader::read_certificate(text, &mut index, &mut values, &mut rows));
+    let r = reader::read_certificate(text, &mut index, &mut values, &mut rows);
+    answer(r);
+    if has_all_rows(r) {
+        chosen(&index, &values, &rows);
+    }
 }
 
 // The place of the next mark from a place on, or the text's end.
