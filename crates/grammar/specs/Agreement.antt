@@ -110,7 +110,7 @@ sound (then f g) s ab o e =
       first .0 ++ second .0,
       joined s (h .1) (first .0) (second .0) (i .1) o (first .1) (second .1) q,
       subst (λ x. Spells (then f g) x (first .0 ++ second .0)) p
-      (record { front = first .0; back = second .0; tokens = refl {a = first .0 ++ second .0}; first = first .2; second = second .2 }),
+          (record { front = first .0; back = second .0; tokens = refl {a = first .0 ++ second .0}; first = first .2; second = second .2 }),
     )
 sound (items n g) s xs o e =
     let r = items-sound (λ before x vs. Spells (g before) x vs) (λ before v. read (g before) v) (λ before v x w p. sound (g before) v x w p) n [] s xs o e in

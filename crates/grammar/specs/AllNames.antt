@@ -235,9 +235,9 @@ variables-stand {text} {tree} s =
     let w = v .second in
     each-map
     (λ t m.
-        text-tokens-stand (s .has-tokens) .holds t
-        (in-back (p .front) (p .back) (p .tokens)
-        (in-front (q .front) (q .back) (q .tokens)
-        (in-back (v .front) (v .back) (v .tokens)
-        (in-back (w .front) (w .back) (w .tokens) m)))))
+    text-tokens-stand (s .has-tokens) .holds t
+    (in-back (p .front) (p .back) (p .tokens)
+    (in-front (q .front) (q .back) (q .tokens)
+    (in-back (v .front) (v .back) (v .tokens)
+    (in-back (w .front) (w .back) (w .tokens) m)))))
     among

@@ -61,9 +61,10 @@ unfolding isDigit
 last-clear rows = (tt, no-number {w = W.minus-one} refl)
 
 derivation-clear : (n m d : ℕ) (names : List Bytes) (before : List Derivation) → Clear (derivation n m names d before)
-derivation-clear n m d names before =
-    (row-clear n (m + length before) (names ++ map (λ (x : Derivation). x .row .name .bytes) before),
-    λ r. (tt, λ o. ((refl, detail-clear (m + length before)), λ q. (tt, λ c. last-clear (m + d)))))
+derivation-clear n m d names before = (
+  row-clear n (m + length before) (names ++ map (λ (x : Derivation). x .row .name .bytes) before),
+  λ r. (tt, λ o. ((refl, detail-clear (m + length before)), λ q. (tt, λ c. last-clear (m + d)))),
+)
 
 -- `-inf` and `inf` are no values
 ends-clear : (w : ClaimWord) → Clear (ends w)
@@ -72,12 +73,25 @@ ends-clear infeasWord = tt
 ends-clear rangeWord = ((tt, no-value {w = W.minus-inf} refl), λ lower. (tt, no-value {w = W.inf} refl))
 
 pub certificate-clear : Clear certificate
-certificate-clear =
-    ((tt, λ u. tt),
-    λ u. ((tt, λ u. (tt, λ n before. tt)),
-    λ v. ((tt, λ u. (tt, λ k before. tt)),
-    λ i. ((tt, λ u. (refl, λ c. pairs-clear (v .count))),
-    λ o. ((tt, λ u. (tt, λ m. (tt, λ b before. row-clear (v .count) (length before) (rowNames before)))),
-    λ c. ((tt, λ p. (refl, ends-clear)),
-    λ r. ((tt, λ u. (tt, λ s before. (tt, λ t. pairs-clear (v .count)))),
-    λ s. (tt, λ p. (tt, λ d before. derivation-clear (v .count) (c .count) d (rowNames (c .rows)) before)))))))))
+certificate-clear = (
+  (tt, λ u. tt),
+  λ u. (
+    (tt, λ u. (tt, λ n before. tt)),
+    λ v. (
+      (tt, λ u. (tt, λ k before. tt)),
+      λ i. (
+        (tt, λ u. (refl, λ c. pairs-clear (v .count))),
+        λ o. (
+          (tt, λ u. (tt, λ m. (tt, λ b before. row-clear (v .count) (length before) (rowNames before)))),
+          λ c. (
+            (tt, λ p. (refl, ends-clear)),
+            λ r. (
+              (tt, λ u. (tt, λ s before. (tt, λ t. pairs-clear (v .count)))),
+              λ s. (tt, λ p. (tt, λ d before. derivation-clear (v .count) (c .count) d (rowNames (c .rows)) before)),
+            ),
+          ),
+        ),
+      ),
+    ),
+  ),
+)
