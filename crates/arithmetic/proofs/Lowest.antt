@@ -10,49 +10,49 @@ use lib.IntN.{ℤ, pos, negsuc, nat_abs, ◌+ℤ◌, ◌*ℤ◌}
 use lib.Signed.{quot_z}
 use mir.Syntax.{w64}
 use mir.Val.{SFits}
-use Rattle.integers.specs.Signs.{isNegative, with_sign, natAbs-withSign, nat_abs_mul, natAbs-add, mag-natAbs, product-sign}
-use Rattle.integers.specs.Integers.{*ℤ-neg-l}
-use Rattle.integers.specs.Gcd.{gcd, gcd-positive}
-use Rattle.integers.specs.Coprime.{Coprime, coprime-one, coprime-sym, sum-coprime}
+use Rattle.integers.specs.Signs.{is_negative, with_sign, nat_abs-with_sign, nat_abs_mul, nat_abs-add, mag-nat_abs, product_sign}
+use Rattle.integers.specs.Integers.{*ℤ-neg_l}
+use Rattle.integers.specs.Gcd.{gcd, gcd_positive}
+use Rattle.integers.specs.Coprime.{Coprime, coprime_one, coprime_sym, sum_coprime}
 use Rattle.arithmetic.specs.Quotient.{Quotient, ◌≈◌, ◌+Q◌, ◌*Q◌, lowest}
-use Rattle.arithmetic.specs.QuotientLaws.{Positive, lowest-is}
+use Rattle.arithmetic.specs.QuotientLaws.{Positive, lowest_is}
 use Rattle.arithmetic.specs.Fraction.{limit}
 use Rattle.arithmetic.specs.Parts.{over}
 
 -- ---- signs
 
-sign-mul : (s : Bool) (a b : ℕ) → with_sign s a *ℤ pos b ≡ with_sign s (a * b)
-sign-mul true a b = *ℤ-neg-l (pos a) (pos b)
-sign-mul false a b = refl
+sign_mul : (s : Bool) (a b : ℕ) → with_sign s a *ℤ pos b ≡ with_sign s (a * b)
+sign_mul true a b = *ℤ-neg_l (pos a) (pos b)
+sign_mul false a b = refl
 
-quot-sign : (z : ℤ) (h : ℕ) → quot_z z (pos h) ≡ with_sign (isNegative z) (nat_abs z / h)
-quot-sign (pos n) h = refl
-quot-sign (negsuc n) h = refl
+quot_sign : (z : ℤ) (h : ℕ) → quot_z z (pos h) ≡ with_sign (is_negative z) (nat_abs z / h)
+quot_sign (pos n) h = refl
+quot_sign (negsuc n) h = refl
 
-quot-with-sign : (s : Bool) (n g : ℕ) → quot_z (with_sign s n) (pos g) ≡ with_sign s (n / g)
-quot-with-sign true zero g = rw (zero-div g)
-quot-with-sign true (suc n) g = refl
-quot-with-sign false n g = refl
+quot_with_sign : (s : Bool) (n g : ℕ) → quot_z (with_sign s n) (pos g) ≡ with_sign s (n / g)
+quot_with_sign true zero g = rw (zero-div g)
+quot_with_sign true (suc n) g = refl
+quot_with_sign false n g = refl
 
 -- by sign and magnitude: both parts divided by their greatest common divisor
 pub lowest_by : (s : Bool) (p q g : ℕ) → g ≡ gcd p q → lowest (over (with_sign s p) q) ≡ over (with_sign s (p / g)) (q / g)
 unfolding lowest
-lowest_by s p q g e = rw (natAbs-withSign s p, ← e, quot-with-sign s p g)
+lowest_by s p q g e = rw (nat_abs-with_sign s p, ← e, quot_with_sign s p g)
 
-pub divisor-positive : (a b g : ℕ) → 0 < b → g ≡ gcd a b → 0 < g
-divisor-positive a b g h e = subst (λ (k : ℕ). 0 < k) (sym e) (gcd-positive a b h)
+pub divisor_positive : (a b g : ℕ) → 0 < b → g ≡ gcd a b → 0 < g
+divisor_positive a b g h e = subst (λ (k : ℕ). 0 < k) (sym e) (gcd_positive a b h)
 
 -- ---- the factors of a product that is 0, and of one that is not
 
-pub factor-zero : (p q : ℕ) → p * q ≡ 0 → (p ≡ 0) ⊎ (q ≡ 0)
-factor-zero zero q e = inl refl
-factor-zero (suc p) zero e = inr refl
-factor-zero (suc p) (suc q) e = absurd (omega (arith, mul-pos (zero-lt-suc p) (zero-lt-suc q)))
+pub factor_zero : (p q : ℕ) → p * q ≡ 0 → (p ≡ 0) ⊎ (q ≡ 0)
+factor_zero zero q e = inl refl
+factor_zero (suc p) zero e = inr refl
+factor_zero (suc p) (suc q) e = absurd (omega (arith, mul-pos (zero-lt-suc p) (zero-lt-suc q)))
 
-pub factors-positive : (p q : ℕ) → 0 < p * q → (0 < p) × (0 < q)
-factors-positive zero q h = absurd (omega (arith, zero-mul q))
-factors-positive (suc p) zero h = absurd (omega (arith, mul-zero (suc p)))
-factors-positive (suc p) (suc q) h = (omega arith, omega arith)
+pub factors_positive : (p q : ℕ) → 0 < p * q → (0 < p) × (0 < q)
+factors_positive zero q h = absurd (omega (arith, zero-mul q))
+factors_positive (suc p) zero h = absurd (omega (arith, mul-zero (suc p)))
+factors_positive (suc p) (suc q) h = (omega arith, omega arith)
 
 -- ---- whole numbers
 
@@ -60,7 +60,7 @@ factors-positive (suc p) (suc q) h = (omega arith, omega arith)
 pub whole-lowest : (z : ℤ) (x : Quotient) → x.top ≡ z → x.bottom ≡ 1 → over z 1 ≡ lowest x
 unfolding ◌≈◌
 whole-lowest z x t b =
-    sym (lowest-is x (over z 1) (omega (arith, b)) (omega arith) (coprime-one (nat_abs z)) (ap₂ (λ (w : ℤ) (k : ℕ). w *ℤ pos k) (sym t) b))
+    sym (lowest_is x (over z 1) (omega (arith, b)) (omega arith) (coprime_one (nat_abs z)) (ap₂ (λ (w : ℤ) (k : ℕ). w *ℤ pos k) (sym t) b))
 
 -- ---- 0
 
@@ -68,13 +68,13 @@ pub zero-lowest : (s : Bool) (n b : ℕ) → n ≡ 0 → 0 < b → over (with_si
 unfolding ◌≈◌
 zero-lowest s n b z h =
     sym
-    (lowest-is (over (with_sign s n) b) (over (with_sign s 0) 1) h (omega arith) (coprime-one (nat_abs (with_sign s 0)))
-    (sign-mul s 0 b ∙ ap (with_sign s) (zero-mul b ∙ sym z ∙ sym (mul-one n)) ∙ sym (sign-mul s n 1)))
+    (lowest_is (over (with_sign s n) b) (over (with_sign s 0) 1) h (omega arith) (coprime_one (nat_abs (with_sign s 0)))
+    (sign_mul s 0 b ∙ ap (with_sign s) (zero-mul b ∙ sym z ∙ sym (mul-one n)) ∙ sym (sign_mul s n 1)))
 
 -- ---- a sum of quotients in lowest terms, whose denominators have no common divisor but 1, is in lowest terms
 
-pub sum-lowest : (x y : Quotient) → Positive x → Positive y → Coprime (nat_abs x.top) x.bottom → Coprime (nat_abs y.top) y.bottom
+pub sum_lowest : (x y : Quotient) → Positive x → Positive y → Coprime (nat_abs x.top) x.bottom → Coprime (nat_abs y.top) y.bottom
     → Coprime x.bottom y.bottom → x +Q y ≡ lowest (x +Q y)
 unfolding ◌≈◌
-sum-lowest x y h i c d e =
-    sym (lowest-is (x +Q y) (x +Q y) (mul-pos h i) (mul-pos h i) (sum-coprime x.top y.top x.bottom y.bottom c d e) refl)
+sum_lowest x y h i c d e =
+    sym (lowest_is (x +Q y) (x +Q y) (mul-pos h i) (mul-pos h i) (sum_coprime x.top y.top x.bottom y.bottom c d e) refl)

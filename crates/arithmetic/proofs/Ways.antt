@@ -12,17 +12,17 @@ use lib.IntN.{ℤ, pos, negsuc, nat_abs, ◌*ℤ◌}
 use lib.Signed.{mag, lt_z, ◌<ℤ◌}
 use mir.Syntax.{w32, w64}
 use mir.Val.{to_z, of_z}
-use Rattle.integers.specs.Signs.{with_sign, natAbs-withSign}
+use Rattle.integers.specs.Signs.{with_sign, nat_abs-with_sign}
 use Rattle.integers.specs.Gcd.{gcd}
-use Rattle.integers.specs.Coprime.{coprime-one}
+use Rattle.integers.specs.Coprime.{coprime_one}
 use Rattle.integers.specs.Binary.{gcd-zero-left}
-use Rattle.integers.proofs.Casts.{positive-mag, back-of}
+use Rattle.integers.proofs.Casts.{positive_mag, back_of}
 use Rattle.arithmetic.specs.Outcome.{Outcome, gives, refuses}
 use Rattle.arithmetic.specs.Quotient.{Quotient, lowest}
 use Rattle.arithmetic.specs.QuotientLaws.{Positive}
-use Rattle.arithmetic.specs.Fraction.{limit, IsFraction, isFraction, exact, ratioOf, within, reducedOf, onFractions, after, arithmeticSays, order, less, equal, greater}
-use Rattle.arithmetic.specs.Meaning.{truth, and-true, true-and, exact-positive}
-use Rattle.arithmetic.specs.Parts.{isShaped, over}
+use Rattle.arithmetic.specs.Fraction.{limit, IsFraction, is_fraction, exact, ratio_of, within, reduced_of, on_fractions, after, arithmetic_says, order, less, equal, greater}
+use Rattle.arithmetic.specs.Meaning.{truth, and-true, true_and, exact_positive}
+use Rattle.arithmetic.specs.Parts.{is_shaped, over}
 use Rattle.arithmetic.specs.declared.Fraction.{Fraction}
 use Rattle.arithmetic.specs.declared.Ratio.{Ratio}
 use Rattle.arithmetic.specs.declared.Arithmetic.{Arithmetic}
@@ -32,17 +32,17 @@ use Rattle.arithmetic.specs.contracts.Arithmetic.{the_type}
 -- ---- within
 
 module _ (s : Bool) (n d : ℕ) where
-  pub wide-num : limit < n → within (over (with_sign s n) d) ≡ refuses 12
+  pub wide_num : limit < n → within (over (with_sign s n) d) ≡ refuses 12
   unfolding within
-  wide-num h = rw (natAbs-withSign s n, lt-leb n limit h)
+  wide_num h = rw (nat_abs-with_sign s n, lt-leb n limit h)
 
-  pub wide-den : n ≤ limit → limit < d → within (over (with_sign s n) d) ≡ refuses 12
+  pub wide_den : n ≤ limit → limit < d → within (over (with_sign s n) d) ≡ refuses 12
   unfolding within
-  wide-den i h = rw (natAbs-withSign s n, le-leb n limit i, lt-leb d limit h)
+  wide_den i h = rw (nat_abs-with_sign s n, le-leb n limit i, lt-leb d limit h)
 
   pub narrow : n ≤ limit → d ≤ limit → within (over (with_sign s n) d) ≡ gives (record { num = with_sign s n; den = pos d })
   unfolding within
-  narrow i h = rw (natAbs-withSign s n, le-leb n limit i, le-leb d limit h)
+  narrow i h = rw (nat_abs-with_sign s n, le-leb n limit i, le-leb d limit h)
 
 -- ---- shapes
 
@@ -51,33 +51,33 @@ abbrev pub Told : Fraction → Type 0
 Told f = (mag f.num < 2147483648) × (mag f.den < 2147483648)
 
 -- a shaped pair has a positive denominator and a numerator within the limit, and a fraction is shaped
-pub shaped-is : (f : Fraction) → isShaped f ≡ true → (pos 0 <ℤ f.den) × (nat_abs f.num ≤ limit)
-shaped-is f e =
+pub shaped_is : (f : Fraction) → is_shaped f ≡ true → (pos 0 <ℤ f.den) × (nat_abs f.num ≤ limit)
+shaped_is f e =
     let p = and-true (lt_z (pos 0) f.den) (leb (nat_abs f.num) limit) e in
     (record { lt = subst T (sym p.0) tt }, leb-true (nat_abs f.num) limit p.1)
 
-pub is-shaped : (f : Fraction) → IsFraction f → isShaped f ≡ true
-is-shaped f v = true-and (lt_z (pos 0) f.den) (leb (nat_abs f.num) limit) (truth (lt_z (pos 0) f.den) v.positive.lt) (le-leb (nat_abs f.num) limit v.num-within)
+pub is_shaped_lem : (f : Fraction) → IsFraction f → is_shaped f ≡ true
+is_shaped_lem f v = true_and (lt_z (pos 0) f.den) (leb (nat_abs f.num) limit) (truth (lt_z (pos 0) f.den) v.positive.lt) (le-leb (nat_abs f.num) limit v.num_within)
 
 -- ---- an operation on fractions
 
 module _ {A : Type 0} (o : Outcome A) where
-  pub on-fractions : (t : Bool) → t ≡ true → onFractions t o ≡ o
-  unfolding onFractions
-  on-fractions t e = rw e
+  pub on_fractions_lem : (t : Bool) → t ≡ true → on_fractions t o ≡ o
+  unfolding on_fractions
+  on_fractions_lem t e = rw e
 
-  pub not-fractions : (t : Bool) → t ≡ false → onFractions t o ≡ refuses 4
-  unfolding onFractions
-  not-fractions t e = rw e
+  pub not_fractions : (t : Bool) → t ≡ false → on_fractions t o ≡ refuses 4
+  unfolding on_fractions
+  not_fractions t e = rw e
 
 -- an exact result with a positive denominator, brought to lowest terms
-pub reduced-exact : (q : Ratio) (x : Quotient) → ratioOf q ≡ x → Positive x → reducedOf q.negative q.top q.bottom ≡ within (lowest x)
-reduced-exact q x e h =
+pub reduced_exact : (q : Ratio) (x : Quotient) → ratio_of q ≡ x → Positive x → reduced_of q.negative q.top q.bottom ≡ within (lowest x)
+reduced_exact q x e h =
     let positive : 0 < q.bottom = subst (λ (y : Quotient). Positive y) (sym e) h in
-    on-fractions _ (not (eqb q.bottom 0)) (ap not (ne_eqb q.bottom 0 (λ z. omega arith))) ∙ ap (λ (y : Quotient). within (lowest y)) e
+    on_fractions_lem _ (not (eqb q.bottom 0)) (ap not (ne_eqb q.bottom 0 (λ z. omega arith))) ∙ ap (λ (y : Quotient). within (lowest y)) e
 
 -- what is refused stays refused
-pub stays : (a : Arithmetic) (next : Fraction → Outcome Fraction) → (tag_of the_type a ≡ 1) ⊎ (tag_of the_type a ≡ 2) → arithmeticSays a ≡ after (arithmeticSays a) next
+pub stays : (a : Arithmetic) (next : Fraction → Outcome Fraction) → (tag_of the_type a ≡ 1) ⊎ (tag_of the_type a ≡ 2) → arithmetic_says a ≡ after (arithmetic_says a) next
 stays (Value f) next (inl e) = absurd (omega (arith, e))
 stays (Value f) next (inr e) = absurd (omega (arith, e))
 stays NotAFraction next h = refl
@@ -90,39 +90,39 @@ read z = to_z w32 (of_z w32 z)
 
 -- a field that equals a small literal
 pub zero-read : (z : ℤ) → mag z < 2147483648 → of_z w32 z ≡ 0 → z ≡ pos 0
-zero-read z h e = sym (back-of z h) ∙ ap (to_z w32) e
+zero-read z h e = sym (back_of z h) ∙ ap (to_z w32) e
 
 pub one-read : (z : ℤ) → mag z < 2147483648 → of_z w32 z ≡ 1 → z ≡ pos 1
-one-read z h e = sym (back-of z h) ∙ ap (to_z w32) e
+one-read z h e = sym (back_of z h) ∙ ap (to_z w32) e
 
 -- and from a local of 64 bits
 abbrev pub read_wide : ℤ → ℤ
 read_wide z = to_z w64 (of_z w64 z)
 
 -- a numerator times a denominator
-pub cross-read : (a b : Fraction) (d : ℕ) (r : ℤ) → Told a → Told b → d ≡ nat_abs (read b.den) → r ≡ read a.num *ℤ pos d → r ≡ a.num *ℤ pos (nat_abs b.den)
-cross-read a b d r s t e f = f ∙ (rw (back-of a.num s.0, e, back-of b.den t.1))
+pub cross_read : (a b : Fraction) (d : ℕ) (r : ℤ) → Told a → Told b → d ≡ nat_abs (read b.den) → r ≡ read a.num *ℤ pos d → r ≡ a.num *ℤ pos (nat_abs b.den)
+cross_read a b d r s t e f = f ∙ (rw (back_of a.num s.0, e, back_of b.den t.1))
 
 -- ---- ordered
 
 module _ (x y : ℤ) where
-  pub is-less : lt_z x y ≡ true → order x y ≡ less
+  pub is_less : lt_z x y ≡ true → order x y ≡ less
   unfolding order
-  is-less l = rw l
+  is_less l = rw l
 
   pub is_greater : lt_z x y ≡ false → lt_z y x ≡ true → order x y ≡ greater
   unfolding order
   is_greater l g = rw (l, g)
 
-  pub is-equal : lt_z x y ≡ false → lt_z y x ≡ false → order x y ≡ equal
+  pub is_equal_lem : lt_z x y ≡ false → lt_z y x ≡ false → order x y ≡ equal
   unfolding order
-  is-equal l g = rw (l, g)
+  is_equal_lem l g = rw (l, g)
 
 -- ---- floor and ceiling: what was rounded of the fields is what the operation on the fraction gives
 
-pub rounded : (round : ℤ → ℕ → ℤ) (a : Fraction) (z : ℤ) → Told a → z ≡ round (read a.num) (nat_abs (read a.den)) → isFraction a ≡ true
-    → gives z ≡ onFractions (isFraction a) (gives (round a.num (nat_abs a.den)))
+pub rounded : (round : ℤ → ℕ → ℤ) (a : Fraction) (z : ℤ) → Told a → z ≡ round (read a.num) (nat_abs (read a.den)) → is_fraction a ≡ true
+    → gives z ≡ on_fractions (is_fraction a) (gives (round a.num (nat_abs a.den)))
 rounded round a z t e v =
     ap gives e
-    ∙ ap₂ (λ (n d : ℤ). gives (round n (nat_abs d))) (back-of a.num t.0) (back-of a.den t.1)
-    ∙ sym (on-fractions (gives (round a.num (nat_abs a.den))) (isFraction a) v)
+    ∙ ap₂ (λ (n d : ℤ). gives (round n (nat_abs d))) (back_of a.num t.0) (back_of a.den t.1)
+    ∙ sym (on_fractions_lem (gives (round a.num (nat_abs a.den))) (is_fraction a) v)

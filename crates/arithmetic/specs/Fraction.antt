@@ -7,7 +7,7 @@ use Rattle.std.specs.Int.Signed.{lt_z}
 use Rattle.integers.specs.Gcd.{gcd}
 use Rattle.integers.specs.Signs.{with_sign}
 use Rattle.arithmetic.specs.Outcome.{Outcome, gives, refuses}
-use Rattle.arithmetic.specs.Quotient.{Quotient, ◌+Q◌, ◌*Q◌, lowest, floorQ, ceilingQ}
+use Rattle.arithmetic.specs.Quotient.{Quotient, ◌+Q◌, ◌*Q◌, lowest, floor_q, ceiling_q}
 use Rattle.arithmetic.specs.declared.Fraction.{Fraction}
 use Rattle.arithmetic.specs.declared.Ratio.{Ratio}
 use Rattle.arithmetic.specs.declared.Arithmetic.{Arithmetic}
@@ -25,12 +25,12 @@ limit = 2147483647
 -- parts, and as a test
 pub record IsFraction (f : Fraction) : Type 0 where
   pub positive : pos 0 <ℤ f.den
-  pub num-within : nat_abs f.num ≤ limit
-  pub den-within : nat_abs f.den ≤ limit
+  pub num_within : nat_abs f.num ≤ limit
+  pub den_within : nat_abs f.den ≤ limit
   pub lowest-terms : (k : ℕ) → k ∣ nat_abs f.num → k ∣ nat_abs f.den → k ≡ 1
 
-unfoldable pub isFraction : Fraction → Bool
-isFraction f =
+unfoldable pub is_fraction : Fraction → Bool
+is_fraction f =
     lt_z (pos 0) f.den
     && (leb (nat_abs f.num) limit
     && (leb (nat_abs f.den) limit
@@ -41,8 +41,8 @@ abbrev pub exact : Fraction → Quotient
 exact f = record { top = f.num; bottom = nat_abs f.den }
 
 -- and the one that an exact result stands for
-abbrev pub ratioOf : Ratio → Quotient
-ratioOf q = record { top = with_sign q.negative q.top; bottom = q.bottom }
+abbrev pub ratio_of : Ratio → Quotient
+ratio_of q = record { top = with_sign q.negative q.top; bottom = q.bottom }
 
 -- a quotient as a fraction, where its numerator and denominator are within the limit; else 12
 unfoldable pub within : Quotient → Outcome Fraction
@@ -53,18 +53,18 @@ within x =
 
 -- "Arithmetic gives 4 if an operand is not a fraction in lowest terms within the limit, else 12 for a product or sum too
 -- wide"; "Every product and every sum is brought to lowest terms"
-unfoldable pub onFractions : {A : Type 0} → Bool → Outcome A → Outcome A
-onFractions operands x = cond operands x (refuses 4)
+unfoldable pub on_fractions : {A : Type 0} → Bool → Outcome A → Outcome A
+on_fractions operands x = cond operands x (refuses 4)
 
 -- a numerator with its sign over a denominator, brought to lowest terms; a denominator of 0 makes no fraction
-abbrev pub reducedOf : Bool → ℕ → ℕ → Outcome Fraction
-reducedOf negative n d = onFractions (not (eqb d 0)) (within (lowest (record { top = with_sign negative n; bottom = d })))
+abbrev pub reduced_of : Bool → ℕ → ℕ → Outcome Fraction
+reduced_of negative n d = on_fractions (not (eqb d 0)) (within (lowest (record { top = with_sign negative n; bottom = d })))
 
-abbrev pub productOf : Fraction → Fraction → Outcome Fraction
-productOf a b = onFractions (isFraction a && isFraction b) (within (lowest (exact a *Q exact b)))
+abbrev pub product_of : Fraction → Fraction → Outcome Fraction
+product_of a b = on_fractions (is_fraction a && is_fraction b) (within (lowest (exact a *Q exact b)))
 
 abbrev pub sum_of : Fraction → Fraction → Outcome Fraction
-sum_of a b = onFractions (isFraction a && isFraction b) (within (lowest (exact a +Q exact b)))
+sum_of a b = on_fractions (is_fraction a && is_fraction b) (within (lowest (exact a +Q exact b)))
 
 -- what follows an outcome that gives a fraction; a refusal stays
 abbrev pub after : Outcome Fraction → (Fraction → Outcome Fraction) → Outcome Fraction
@@ -73,8 +73,8 @@ after (refuses n) next = refuses n
 
 -- "(product, then sum for that variable)": a sum and a product more. 4 if one of the three is no fraction; else the product, then
 -- the sum with what it gives, and 12 at the first too wide
-abbrev pub addProductOf : Fraction → Fraction → Fraction → Outcome Fraction
-addProductOf sum a b = onFractions (isFraction sum && (isFraction a && isFraction b)) (after (productOf a b) (sum_of sum))
+abbrev pub add_product_of : Fraction → Fraction → Fraction → Outcome Fraction
+add_product_of sum a b = on_fractions (is_fraction sum && (is_fraction a && is_fraction b)) (after (product_of a b) (sum_of sum))
 
 -- "Comparisons are exact, never 12"
 pub data Order : Type 0 where
@@ -85,31 +85,31 @@ pub data Order : Type 0 where
 unfoldable pub order : ℤ → ℤ → Order
 order x y = cond (lt_z x y) less (cond (lt_z y x) greater equal)
 
-abbrev pub orderQ : Quotient → Quotient → Order
-orderQ x y = order (x.top *ℤ pos y.bottom) (y.top *ℤ pos x.bottom)
+abbrev pub order_q : Quotient → Quotient → Order
+order_q x y = order (x.top *ℤ pos y.bottom) (y.top *ℤ pos x.bottom)
 
-abbrev pub compareOf : Fraction → Fraction → Outcome Order
-compareOf a b = onFractions (isFraction a && isFraction b) (gives (orderQ (exact a) (exact b)))
+abbrev pub compare_of : Fraction → Fraction → Outcome Order
+compare_of a b = on_fractions (is_fraction a && is_fraction b) (gives (order_q (exact a) (exact b)))
 
-abbrev pub floorOf : Fraction → Outcome ℤ
-floorOf a = onFractions (isFraction a) (gives (floorQ (exact a)))
+abbrev pub floor_of : Fraction → Outcome ℤ
+floor_of a = on_fractions (is_fraction a) (gives (floor_q (exact a)))
 
-abbrev pub ceilingOf : Fraction → Outcome ℤ
-ceilingOf a = onFractions (isFraction a) (gives (ceilingQ (exact a)))
+abbrev pub ceiling_of : Fraction → Outcome ℤ
+ceiling_of a = on_fractions (is_fraction a) (gives (ceiling_q (exact a)))
 
 -- ---- 01's number and values for each case of the answers' enums
 
-abbrev pub arithmeticSays : Arithmetic → Outcome Fraction
-arithmeticSays (arithmetic.Value f) = gives f
-arithmeticSays arithmetic.NotAFraction = refuses 4
-arithmeticSays arithmetic.TooWide = refuses 12
+abbrev pub arithmetic_says : Arithmetic → Outcome Fraction
+arithmetic_says (arithmetic.Value f) = gives f
+arithmetic_says arithmetic.NotAFraction = refuses 4
+arithmetic_says arithmetic.TooWide = refuses 12
 
-abbrev pub comparisonSays : Comparison → Outcome Order
-comparisonSays comparison.Less = gives less
-comparisonSays comparison.Equal = gives equal
-comparisonSays comparison.Greater = gives greater
-comparisonSays comparison.NotAFraction = refuses 4
+abbrev pub comparison_says : Comparison → Outcome Order
+comparison_says comparison.Less = gives less
+comparison_says comparison.Equal = gives equal
+comparison_says comparison.Greater = gives greater
+comparison_says comparison.NotAFraction = refuses 4
 
-abbrev pub roundingSays : Rounding → Outcome ℤ
-roundingSays (rounding.Whole z) = gives z
-roundingSays rounding.NotAFraction = refuses 4
+abbrev pub rounding_says : Rounding → Outcome ℤ
+rounding_says (rounding.Whole z) = gives z
+rounding_says rounding.NotAFraction = refuses 4

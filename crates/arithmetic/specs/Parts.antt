@@ -13,9 +13,9 @@ abbrev pub over : ℤ → ℕ → Quotient
 over n d = record { top = n; bottom = d }
 
 -- n / d is in lowest terms: the greatest common divisor is 1
-abbrev pub lowestTerms : ℤ → ℕ → Bool
-lowestTerms n d = eqb (gcd (nat_abs n) d) 1
+abbrev pub lowest_terms : ℤ → ℕ → Bool
+lowest_terms n d = eqb (gcd (nat_abs n) d) 1
 
 -- within the limit: a denominator of 32 bits is, if it is positive
-abbrev pub isShaped : Fraction → Bool
-isShaped f = lt_z (pos 0) f.den && leb (nat_abs f.num) limit
+abbrev pub is_shaped : Fraction → Bool
+is_shaped f = lt_z (pos 0) f.den && leb (nat_abs f.num) limit

@@ -43,17 +43,17 @@ lowest x =
     record { top = quot_z x.top (pos g); bottom = x.bottom / g }
 
 -- z / d rounded down; negsuc n is -(n + 1), which rounds down to -(n / d + 1)
-unfoldable pub floorZ : ℤ → ℕ → ℤ
-floorZ (pos n) d = pos (n / d)
-floorZ (negsuc n) d = negsuc (n / d)
+unfoldable pub floor_z : ℤ → ℕ → ℤ
+floor_z (pos n) d = pos (n / d)
+floor_z (negsuc n) d = negsuc (n / d)
 
 -- z / d rounded up
-unfoldable pub ceilingZ : ℤ → ℕ → ℤ
-ceilingZ z d = neg_ℤ (floorZ (neg_ℤ z) d)
+unfoldable pub ceiling_z : ℤ → ℕ → ℤ
+ceiling_z z d = neg_ℤ (floor_z (neg_ℤ z) d)
 
 -- the greatest whole number that is at most x, and the least that is at least x
-abbrev pub floorQ : Quotient → ℤ
-floorQ x = floorZ x.top x.bottom
+abbrev pub floor_q : Quotient → ℤ
+floor_q x = floor_z x.top x.bottom
 
-abbrev pub ceilingQ : Quotient → ℤ
-ceilingQ x = ceilingZ x.top x.bottom
+abbrev pub ceiling_q : Quotient → ℤ
+ceiling_q x = ceiling_z x.top x.bottom

@@ -4,10 +4,10 @@
 ghost use Rattle.std.specs.Prelude.{◌≡◌, ◌*◌, ◌≤◌, ◌<◌, pos, nat_abs, ◌*ℤ◌, ◌+ℤ◌, ◌<ℤ◌};
 ghost use Rattle.std.specs.Int.Signed.{mag};
 ghost use Rattle.integers.specs.Signs.{with_sign};
-ghost use Rattle.arithmetic.specs.Quotient.{◌+Q◌, ◌*Q◌, floorZ, ceilingZ};
-ghost use Rattle.arithmetic.specs.Fraction.{limit, IsFraction, exact, ratioOf, within as withinOf, reducedOf, productOf, sum_of, after, addProductOf, compareOf, order, floorOf, ceilingOf, arithmeticSays, comparisonSays, roundingSays};
+ghost use Rattle.arithmetic.specs.Quotient.{◌+Q◌, ◌*Q◌, floor_z, ceiling_z};
+ghost use Rattle.arithmetic.specs.Fraction.{limit, IsFraction, exact, ratio_of, within as within_of, reduced_of, product_of, sum_of, after, add_product_of, compare_of, order, floor_of, ceiling_of, arithmetic_says, comparison_says, rounding_says};
 ghost use Rattle.arithmetic.specs.Outcome.{gives};
-ghost use Rattle.arithmetic.specs.Parts.{isShaped, over};
+ghost use Rattle.arithmetic.specs.Parts.{is_shaped, over};
 
 // The largest magnitude of a numerator or a denominator.
 const LIMIT: u64 = 2147483647;
@@ -95,7 +95,7 @@ fn wide_signed(n: i32, d: u32) -> i64
 
 // Whether a pair is a fraction if it is in lowest terms.
 pub fn is_shaped(f: Fraction) -> bool
-    ensures { result ≡ isShaped f }
+    ensures { result ≡ is_shaped f }
 {
     let n = f.num;
     let d = f.den;
@@ -108,7 +108,7 @@ pub fn is_shaped(f: Fraction) -> bool
 
 // A quotient that is in lowest terms already, if it is within the limit.
 pub fn within(negative: bool, n: u64, d: u64) -> Arithmetic
-    ensures { arithmeticSays result ≡ withinOf (over (with_sign negative n) d) }
+    ensures { arithmetic_says result ≡ within_of (over (with_sign negative n) d) }
 {
     if n > LIMIT {
         return Arithmetic::TooWide;
@@ -124,7 +124,7 @@ pub fn within(negative: bool, n: u64, d: u64) -> Arithmetic
 
 // n / d, negated if asked, brought to lowest terms. No fraction has the denominator 0; a whole number is in lowest terms.
 pub fn reduced(negative: bool, n: u64, d: u64) -> Arithmetic
-    ensures { arithmeticSays result ≡ reducedOf negative n d }
+    ensures { arithmetic_says result ≡ reduced_of negative n d }
 {
     if d == 0 {
         return Arithmetic::NotAFraction;
@@ -154,7 +154,7 @@ fn cross(a: Fraction, b: Fraction) -> i64
 
 // The exact product.
 pub fn multiplied(a: Fraction, b: Fraction) -> Ratio
-    ensures { ratioOf result ≡ exact a *Q exact b }
+    ensures { ratio_of result ≡ exact a *Q exact b }
 {
     let n = a.num;
     let m = b.num;
@@ -168,7 +168,7 @@ pub fn multiplied(a: Fraction, b: Fraction) -> Ratio
 
 // The exact sum.
 pub fn added(a: Fraction, b: Fraction) -> Ratio
-    ensures { ratioOf result ≡ exact a +Q exact b }
+    ensures { ratio_of result ≡ exact a +Q exact b }
 {
     let t = cross(a, b) + cross(b, a);
     Ratio {
@@ -179,7 +179,7 @@ pub fn added(a: Fraction, b: Fraction) -> Ratio
 }
 
 pub fn product(a: Fraction, b: Fraction) -> Arithmetic
-    ensures { IsFraction a → IsFraction b → arithmeticSays result ≡ productOf a b }
+    ensures { IsFraction a → IsFraction b → arithmetic_says result ≡ product_of a b }
 {
     let q = multiplied(a, b);
     reduced(q.negative, q.top, q.bottom)
@@ -187,7 +187,7 @@ pub fn product(a: Fraction, b: Fraction) -> Arithmetic
 
 // A sum with a whole number is in lowest terms.
 pub fn sum(a: Fraction, b: Fraction) -> Arithmetic
-    ensures { IsFraction a → IsFraction b → arithmeticSays result ≡ sum_of a b }
+    ensures { IsFraction a → IsFraction b → arithmetic_says result ≡ sum_of a b }
 {
     let q = added(a, b);
     if a.den == 1 {
@@ -218,7 +218,7 @@ fn whole_sum(s: i32, w: i64) -> i64
 
 // s + n * m, whole numbers.
 fn add_product_whole(s: i32, n: i32, m: i32) -> Arithmetic
-    ensures { arithmeticSays result ≡ after (withinOf (over (n *ℤ m) 1)) (λ p. withinOf (over (s +ℤ p.num) 1)) }
+    ensures { arithmetic_says result ≡ after (within_of (over (n *ℤ m) 1)) (λ p. within_of (over (s +ℤ p.num) 1)) }
 {
     let w = whole_product(n, m);
     if magnitude_wide(w) > LIMIT {
@@ -230,7 +230,7 @@ fn add_product_whole(s: i32, n: i32, m: i32) -> Arithmetic
 
 // s + a * b, of any fractions.
 fn add_product_any(s: Fraction, a: Fraction, b: Fraction) -> Arithmetic
-    ensures { IsFraction s → IsFraction a → IsFraction b → arithmeticSays result ≡ addProductOf s a b }
+    ensures { IsFraction s → IsFraction a → IsFraction b → arithmetic_says result ≡ add_product_of s a b }
 {
     let p = product(a, b);
     let Arithmetic::Value(v) = p else {
@@ -241,7 +241,7 @@ fn add_product_any(s: Fraction, a: Fraction, b: Fraction) -> Arithmetic
 
 // A sum and a product more: a * b, then s + a * b, each brought to lowest terms within the limit.
 pub fn add_product(s: Fraction, a: Fraction, b: Fraction) -> Arithmetic
-    ensures { IsFraction s → IsFraction a → IsFraction b → arithmeticSays result ≡ addProductOf s a b }
+    ensures { IsFraction s → IsFraction a → IsFraction b → arithmetic_says result ≡ add_product_of s a b }
 {
     if b.num == 0 {
         return Arithmetic::Value(s);
@@ -259,7 +259,7 @@ pub fn add_product(s: Fraction, a: Fraction, b: Fraction) -> Arithmetic
 // ---- comparison
 
 fn ordered(x: i64, y: i64) -> Comparison
-    ensures { comparisonSays result ≡ gives (order x y) }
+    ensures { comparison_says result ≡ gives (order x y) }
 {
     if x < y {
         Comparison::Less
@@ -271,7 +271,7 @@ fn ordered(x: i64, y: i64) -> Comparison
 }
 
 pub fn compare(a: Fraction, b: Fraction) -> Comparison
-    ensures { IsFraction a → IsFraction b → comparisonSays result ≡ compareOf a b }
+    ensures { IsFraction a → IsFraction b → comparison_says result ≡ compare_of a b }
 {
     ordered(cross(a, b), cross(b, a))
 }
@@ -281,7 +281,7 @@ pub fn compare(a: Fraction, b: Fraction) -> Comparison
 // n / d rounded down. The signed division rounds toward zero, so a negative remainder takes one more off.
 fn floor_of(n: i32, d: i32) -> i32
     requires { pos 0 <ℤ d }
-    ensures { result ≡ floorZ n (nat_abs d) }
+    ensures { result ≡ floor_z n (nat_abs d) }
 {
     let q = n / d;
     if n % d < 0 { q - 1 } else { q }
@@ -290,13 +290,13 @@ fn floor_of(n: i32, d: i32) -> i32
 // n / d rounded up: -n / d rounded down, negated.
 fn ceiling_of(n: i32, d: i32) -> i32
     requires { (pos 0 <ℤ d) × (nat_abs n ≤ limit) }
-    ensures { result ≡ ceilingZ n (nat_abs d) }
+    ensures { result ≡ ceiling_z n (nat_abs d) }
 {
     0 - floor_of(0 - n, d)
 }
 
 pub fn floor(a: Fraction) -> Rounding
-    ensures { IsFraction a → roundingSays result ≡ floorOf a }
+    ensures { IsFraction a → rounding_says result ≡ floor_of a }
 {
     if is_shaped(a) {
         Rounding::Whole(floor_of(a.num, a.den))
@@ -306,7 +306,7 @@ pub fn floor(a: Fraction) -> Rounding
 }
 
 pub fn ceiling(a: Fraction) -> Rounding
-    ensures { IsFraction a → roundingSays result ≡ ceilingOf a }
+    ensures { IsFraction a → rounding_says result ≡ ceiling_of a }
 {
     if is_shaped(a) {
         Rounding::Whole(ceiling_of(a.num, a.den))

@@ -9,70 +9,70 @@ use Rattle.grammar.specs.Tree.{Direction, End, infinite, finite, Tree}
 use Rattle.grammar.specs.declared.Refusal.{Refusal}
 use Rattle.rules.specs.Result as rules
 use Rattle.rules.specs.Result.{done, refused, fine, bind, ◌andThen◌, require, each}
-use Rattle.rules.specs.Tests.{someOf}
-use Rattle.rules.specs.Solutions.{holds, towards, checkSolution, objectivesOf, endToReach, reached}
-use Rattle.rules.specs.Check.{checkOf}
-use Rattle.verdicts.specs.Verdicts.{verdictSays}
+use Rattle.rules.specs.Tests.{some_of}
+use Rattle.rules.specs.Solutions.{holds, towards, check_solution, objectives_of, end_to_reach, reached}
+use Rattle.rules.specs.Check.{check_of}
+use Rattle.verdicts.specs.Verdicts.{verdict_says}
 use Rattle.verdicts.specs.declared.Verdict.{Verdict}
 use Rattle.verdicts.specs.declared.Verdict.TheVariants.{Fine, Refused}
 use Rattle.solutions.specs.Objectives.{Worked, ObjectivesSay}
 use Rattle.solutions.specs.declared.objectives.Best.{Best}
 use Rattle.solutions.specs.declared.objectives.Objectives.{Objectives}
 use Rattle.solutions.specs.declared.objectives.Objectives.TheVariants as objectives
-use Rattle.checker.specs.Order.{proofOf, reachingOf}
+use Rattle.checker.specs.Order.{proof_of, reaching_of}
 
 -- ---- the first refusal
 
 -- a refusal of the first of two is the refusal of both
-pub stops : (v : Verdict) {reason : Refusal} {place : ℕ} (x y : rules.Verdict) → v ≡ Refused reason place → verdictSays v ≡ x → verdictSays v ≡ x and_then y
+pub stops : (v : Verdict) {reason : Refusal} {place : ℕ} (x y : rules.Verdict) → v ≡ Refused reason place → verdict_says v ≡ x → verdict_says v ≡ x and_then y
 stops v x y e f =
-    let g : refused _ _ ≡ x = sym (ap verdictSays e) ∙ f in
+    let g : refused _ _ ≡ x = sym (ap verdict_says e) ∙ f in
     f ∙ sym g ∙ ap (λ (z : rules.Verdict). z and_then y) g
 
 -- where the first is fine, the second is the refusal of both
-pub goes_on : {v : Verdict} {w : rules.Verdict} (x y : rules.Verdict) → v ≡ Fine → verdictSays v ≡ x → w ≡ y → w ≡ x and_then y
-goes_on x y e f g = g ∙ ap (λ (z : rules.Verdict). z and_then y) (sym (ap verdictSays e) ∙ f)
+pub goes_on : {v : Verdict} {w : rules.Verdict} (x y : rules.Verdict) → v ≡ Fine → verdict_says v ≡ x → w ≡ y → w ≡ x and_then y
+goes_on x y e f g = g ∙ ap (λ (z : rules.Verdict). z and_then y) (sym (ap verdict_says e) ∙ f)
 
 module _ (tree : Tree) where
-  abbrev solutions-part : rules.Verdict
-  solutions-part = each (checkSolution tree) tree.solutions.solutions
+  abbrev solutions_part : rules.Verdict
+  solutions_part = each (check_solution tree) tree.solutions.solutions
 
-  pub solutions-refused : {v : Verdict} {reason : Refusal} {place : ℕ} → v ≡ Refused reason place → verdictSays v ≡ solutions-part → verdictSays v ≡ checkOf tree
-  unfolding checkOf
-  solutions-refused {v} e f = stops v solutions-part _ e f
+  pub solutions_refused : {v : Verdict} {reason : Refusal} {place : ℕ} → v ≡ Refused reason place → verdict_says v ≡ solutions_part → verdict_says v ≡ check_of tree
+  unfolding check_of
+  solutions_refused {v} e f = stops v solutions_part _ e f
 
-  pub after-solutions : {v : Verdict} {w : rules.Verdict} → v ≡ Fine → verdictSays v ≡ solutions-part → w ≡ bind (objectivesOf tree) (reachingOf tree) → w ≡ checkOf tree
-  unfolding checkOf
-  after-solutions e f g = goes_on solutions-part _ e f g
+  pub after_solutions : {v : Verdict} {w : rules.Verdict} → v ≡ Fine → verdict_says v ≡ solutions_part → w ≡ bind (objectives_of tree) (reaching_of tree) → w ≡ check_of tree
+  unfolding check_of
+  after_solutions e f g = goes_on solutions_part _ e f g
 
   -- ---- the objectives
 
   module _ (bound : Fraction) where
-    pub too_wide : {r : Objectives} {place : ℕ} → r ≡ objectives.TooWide place → ObjectivesSay tree bound r → refused 12 place ≡ bind (objectivesOf tree) (reachingOf tree)
-    too_wide e h = sym (ap (λ (x : rules.Result (List Fraction)). bind x (reachingOf tree)) (subst (ObjectivesSay tree bound) e h))
+    pub too_wide : {r : Objectives} {place : ℕ} → r ≡ objectives.TooWide place → ObjectivesSay tree bound r → refused 12 place ≡ bind (objectives_of tree) (reaching_of tree)
+    too_wide e h = sym (ap (λ (x : rules.Result (List Fraction)). bind x (reaching_of tree)) (subst (ObjectivesSay tree bound) e h))
 
     pub found : {r : Objectives} {b : Best} → r ≡ objectives.Found b → ObjectivesSay tree bound r → Worked tree bound b
     found e h = subst (ObjectivesSay tree bound) e h
 
     -- ---- "some objective is at most ub .. some is at least lb; else 10"
 
-    module _ (asked : Bool) (end_is : cond asked (finite bound) infinite ≡ endToReach tree.objective.direction tree.relation.claim) (best : Best) (w : Worked tree bound best) where
+    module _ (asked : Bool) (end_is : cond asked (finite bound) infinite ≡ end_to_reach tree.objective.direction tree.relation.claim) (best : Best) (w : Worked tree bound best) where
       abbrev direction : Direction
       direction = tree.objective.direction
 
-      reached-bound : (a : Bool) → reached direction (cond a (finite bound) infinite) w.values ≡ cond a (someOf (λ o. holds (towards direction) o bound) w.values) true
-      reached-bound true = refl
-      reached-bound false = refl
+      reached_bound : (a : Bool) → reached direction (cond a (finite bound) infinite) w.values ≡ cond a (some_of (λ o. holds (towards direction) o bound) w.values) true
+      reached_bound true = refl
+      reached_bound false = refl
 
-      test : reached direction (endToReach direction tree.relation.claim) w.values ≡ cond asked best.reached true
+      test : reached direction (end_to_reach direction tree.relation.claim) w.values ≡ cond asked best.reached true
       test =
-          ap (λ (e : End). reached direction e w.values) (sym end_is) ∙ reached-bound asked
-          ∙ ap (λ (r : Bool). cond asked r true) (sym w.best.reached-is)
+          ap (λ (e : End). reached direction e w.values) (sym end_is) ∙ reached_bound asked
+          ∙ ap (λ (r : Bool). cond asked r true) (sym w.best.reached_is)
 
-      tested : (r : Bool) → cond asked best.reached true ≡ r → require r 10 tree.relation.place and_then proofOf tree w.values ≡ bind (objectivesOf tree) (reachingOf tree)
+      tested : (r : Bool) → cond asked best.reached true ≡ r → require r 10 tree.relation.place and_then proof_of tree w.values ≡ bind (objectives_of tree) (reaching_of tree)
       tested r e =
-          sym (ap (λ (t : Bool). require t 10 tree.relation.place and_then proofOf tree w.values) (test ∙ e))
-          ∙ sym (ap (λ (x : rules.Result (List Fraction)). bind x (reachingOf tree)) w.are)
+          sym (ap (λ (t : Bool). require t 10 tree.relation.place and_then proof_of tree w.values) (test ∙ e))
+          ∙ sym (ap (λ (x : rules.Result (List Fraction)). bind x (reaching_of tree)) w.are)
 
       missed : (a r : Bool) → a && not r ≡ true → cond a r true ≡ false
       missed true false e = refl
@@ -84,8 +84,8 @@ module _ (tree : Tree) where
       met true false e = sym e
       met false r e = refl
 
-      pub not-reached : asked && not best.reached ≡ true → {place : ℕ} → place ≡ tree.relation.place → refused 10 place ≡ bind (objectivesOf tree) (reachingOf tree)
+      pub not-reached : asked && not best.reached ≡ true → {place : ℕ} → place ≡ tree.relation.place → refused 10 place ≡ bind (objectives_of tree) (reaching_of tree)
       not-reached e p = ap (λ (n : ℕ). refused 10 n) p ∙ tested false (missed asked best.reached e)
 
-      pub is-reached : asked && not best.reached ≡ false → {v : rules.Verdict} → v ≡ proofOf tree w.values → v ≡ bind (objectivesOf tree) (reachingOf tree)
-      is-reached e q = q ∙ tested true (met asked best.reached e)
+      pub is_reached : asked && not best.reached ≡ false → {v : rules.Verdict} → v ≡ proof_of tree w.values → v ≡ bind (objectives_of tree) (reaching_of tree)
+      is_reached e q = q ∙ tested true (met asked best.reached e)

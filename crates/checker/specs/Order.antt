@@ -1,23 +1,23 @@
--- The parts of checking, in document 01's order, as `checkOf` of rules has them.
+-- The parts of checking, in document 01's order, as `check_of` of rules has them.
 -- Assumes nothing.
 use Rattle.std.specs.Prelude.{List, length}
 use Rattle.arithmetic.specs.declared.Fraction.{Fraction}
 use Rattle.grammar.specs.Tree.{Tree}
-use Rattle.rules.specs.Result.{Verdict, ◌andThen◌, require, eachFrom}
-use Rattle.rules.specs.Solutions.{endToReach, reached}
-use Rattle.rules.specs.Derivations.{checkDerivation}
-use Rattle.rules.specs.Claims.{lastRow, isProved, lastPlace}
+use Rattle.rules.specs.Result.{Verdict, ◌andThen◌, require, each_from}
+use Rattle.rules.specs.Solutions.{end_to_reach, reached}
+use Rattle.rules.specs.Derivations.{check_derivation}
+use Rattle.rules.specs.Claims.{last_row, is_proved, last_place}
 
 -- "Each derived row"
-abbrev pub derivationsOf : Tree → List Fraction → Verdict
-derivationsOf tree os = eachFrom (checkDerivation tree os) (length tree.constraints.rows) tree.derivations.derivations
+abbrev pub derivations_of : Tree → List Fraction → Verdict
+derivations_of tree os = each_from (check_derivation tree os) (length tree.constraints.rows) tree.derivations.derivations
 
 -- "Each derived row .. Claim, else 17"
-abbrev pub proofOf : Tree → List Fraction → Verdict
-proofOf tree os = derivationsOf tree os and_then require (isProved tree) 17 (lastPlace tree.derivations.place (lastRow tree))
+abbrev pub proof_of : Tree → List Fraction → Verdict
+proof_of tree os = derivations_of tree os and_then require (is_proved tree) 17 (last_place tree.derivations.place (last_row tree))
 
 -- "some objective is at most ub .. some is at least lb; else 10", and then the proof
-abbrev pub reachingOf : Tree → List Fraction → Verdict
-reachingOf tree os =
-    require (reached tree.objective.direction (endToReach tree.objective.direction tree.relation.claim) os) 10 tree.relation.place
-    and_then proofOf tree os
+abbrev pub reaching_of : Tree → List Fraction → Verdict
+reaching_of tree os =
+    require (reached tree.objective.direction (end_to_reach tree.objective.direction tree.relation.claim) os) 10 tree.relation.place
+    and_then proof_of tree os

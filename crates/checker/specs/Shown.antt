@@ -7,35 +7,35 @@ use Rattle.std.proofs.Common.{sym, ◌∙◌, ap}
 use Rattle.text.specs.Bytes.{Bytes}
 use Rattle.grammar.specs.Texts.{ReadText, taken, refused, read_of}
 use Rattle.rules.specs.Result as rules
-use Rattle.rules.specs.Check.{checkOf}
+use Rattle.rules.specs.Check.{check_of}
 use Rattle.rules.specs.Worked as worked
 use Rattle.rules.specs.Worked.{Case, cases}
 use Rattle.reader.specs.Promise.{begun}
-use Rattle.checker.specs.Promise.{Answer, verifies, refuses, checkedSays, answer_of}
+use Rattle.checker.specs.Promise.{Answer, verifies, refuses, checked_says, answer_of}
 
 -- the answer to a text of at most 32,768 bytes, with tables that have the cells needed
 abbrev pub answered : Bytes → Answer
 answered text = answer_of text (begun (read_of text))
 
 -- what a worked case expects
-abbrev pub expectedOf : worked.Answer → Answer
-expectedOf worked.verified = verifies
-expectedOf (worked.refused reason line) = refuses reason line
+abbrev pub expected_of : worked.Answer → Answer
+expected_of worked.verified = verifies
+expected_of (worked.refused reason line) = refuses reason line
 
-same_answer : (text : Bytes) → answered text ≡ expectedOf (worked.answer text)
+same_answer : (text : Bytes) → answered text ≡ expected_of (worked.answer text)
 same_answer text = read (read_of text)
   where
-    checked : (v : rules.Verdict) → checkedSays text v ≡ expectedOf (worked.lined text v)
+    checked : (v : rules.Verdict) → checked_says text v ≡ expected_of (worked.lined text v)
     checked (rules.done u) = refl
     checked (rules.refused reason place) = refl
 
-    read : (r : ReadText) → answer_of text (begun r) ≡ expectedOf (worked.lined text (worked.verdict r))
-    read (taken tree) = checked (checkOf tree)
+    read : (r : ReadText) → answer_of text (begun r) ≡ expected_of (worked.lined text (worked.verdict r))
+    read (taken tree) = checked (check_of tree)
     read (refused reason place) = refl
 
-each-answer : (cs : List Case) → map (λ (c : Case). answered c.text) cs ≡ map expectedOf (map (λ (c : Case). worked.answer c.text) cs)
+each-answer : (cs : List Case) → map (λ (c : Case). answered c.text) cs ≡ map expected_of (map (λ (c : Case). worked.answer c.text) cs)
 each-answer [] = refl
 each-answer (c ∷ cs) = λ i. same_answer c.text i ∷ each-answer cs i
 
-pub shown : map (λ (c : Case). answered c.text) cases ≡ map expectedOf (map (λ (c : Case). c.expected) cases)
-shown = each-answer cases ∙ ap (map expectedOf) worked.worked
+pub shown : map (λ (c : Case). answered c.text) cases ≡ map expected_of (map (λ (c : Case). c.expected) cases)
+shown = each-answer cases ∙ ap (map expected_of) worked.worked

@@ -4,12 +4,12 @@ ghost use Rattle.arithmetic.specs.Fraction.{IsFraction};
 ghost use Rattle.arithmetic.specs.declared.Fraction.{Fraction as Value};
 ghost use Rattle.grammar.specs.Tree.{finite, infinite, Tree};
 ghost use Rattle.rules.specs.Result.{bind};
-ghost use Rattle.rules.specs.Solutions.{objectivesOf, bestOf, endToReach};
-ghost use Rattle.rules.specs.Check.{checkOf};
+ghost use Rattle.rules.specs.Solutions.{objectives_of, best_of, end_to_reach};
+ghost use Rattle.rules.specs.Check.{check_of};
 ghost use Rattle.encoding.specs.Encodes.{Encodes};
-ghost use Rattle.verdicts.specs.Verdicts.{verdictSays};
-ghost use Rattle.solutions.specs.Objectives.{bestSays};
-ghost use Rattle.checker.specs.Order.{proofOf, reachingOf};
+ghost use Rattle.verdicts.specs.Verdicts.{verdict_says};
+ghost use Rattle.solutions.specs.Objectives.{best_says};
+ghost use Rattle.checker.specs.Order.{proof_of, reaching_of};
 
 use arithmetic::Fraction;
 use encoding::claims::End;
@@ -21,7 +21,7 @@ use verdicts::Verdict;
 
 // "Each derived row .. Claim, else 17", by the best objective.
 fn check_proof(index: &[u16], values: &[i32], rows: &[u16], header: Header, best: Best) -> Verdict
-    ensures { (tree : Tree) (os : List Value) → Encodes tree header index.now values.now rows.now → bestSays best ≡ bestOf tree.objective.direction os → IsFraction best.value → verdictSays result ≡ proofOf tree os }
+    ensures { (tree : Tree) (os : List Value) → Encodes tree header index.now values.now rows.now → best_says best ≡ best_of tree.objective.direction os → IsFraction best.value → verdict_says result ≡ proof_of tree os }
 {
     let v = derivations::check_derivations(index, values, rows, header, best.any, best.value);
     let Verdict::Fine = v else {
@@ -39,7 +39,7 @@ fn check_reaching(
     asked: bool,
     bound: Fraction,
 ) -> Verdict
-    ensures { (tree : Tree) → Encodes tree header index.now values.now rows.now → IsFraction bound → cond asked (finite bound) infinite ≡ endToReach tree.objective.direction tree.relation.claim → verdictSays result ≡ bind (objectivesOf tree) (reachingOf tree) }
+    ensures { (tree : Tree) → Encodes tree header index.now values.now rows.now → IsFraction bound → cond asked (finite bound) infinite ≡ end_to_reach tree.objective.direction tree.relation.claim → verdict_says result ≡ bind (objectives_of tree) (reaching_of tree) }
 {
     match objectives::objectives_of(index, values, rows, header, bound) {
         Objectives::TooWide(place) => Verdict::Refused(Refusal::ResultTooWide, place),
@@ -54,7 +54,7 @@ fn check_reaching(
 
 // "For each solution in order .. After all solutions, their objectives .. else 10 .. Each derived row .. Claim, else 17".
 pub(crate) fn check(index: &[u16], values: &[i32], rows: &[u16], header: Header) -> Verdict
-    ensures { (tree : Tree) → Encodes tree header index.now values.now rows.now → verdictSays result ≡ checkOf tree }
+    ensures { (tree : Tree) → Encodes tree header index.now values.now rows.now → verdict_says result ≡ check_of tree }
 {
     let solved = feasibility::check_solutions(index, values, rows, header);
     let Verdict::Fine = solved else {

@@ -16,7 +16,7 @@ pub enum Verification {
 
 // Reads a text into the tables, whatever stood in them, and checks what was read. The tables are left as reading leaves them.
 // Where the answer is `Verified`, the sentence about points holds of the text: each listed solution is feasible, and no feasible
-// point lies beyond the verified bound (`verified-means` of the contract).
+// point lies beyond the verified bound (`verified_means` of the contract).
 pub fn verify(text: &[u8], index: &mut [u16], values: &mut [i32], rows: &mut [u16]) -> Verification
     ensures { CertificateVerified text.now index.old values.old rows.old index.new values.new rows.new result }
 {

@@ -14,18 +14,18 @@ use lib.IntN.{ℤ}
 use lib.ListN.{length, get_or}
 use Rattle.tables.specs.declared.Header.{Header}
 use Rattle.grammar.specs.Tree.{Direction, minimize, maximize, at_most, at_least, End, infinite, finite, Claim, infeas, range, Derivation, Tree}
-use Rattle.grammar.specs.Certificate.{claimCell, ofClaim}
-use Rattle.grammar.specs.Header.{isMaximize}
+use Rattle.grammar.specs.Certificate.{claim_cell, of_claim}
+use Rattle.grammar.specs.Header.{is_maximize}
 use Rattle.rules.specs.Tests.{not-true}
-use Rattle.rules.specs.Rows.{Constraint, constraintOf, objectiveWith, row_of, row_at}
-use Rattle.rules.specs.Solutions.{endToReach}
-use Rattle.rules.specs.Assumptions.{assumptionsOf, is_empty}
-use Rattle.rules.specs.Claims.{Asked, nothing, absurdity, domination, askedBy, asked, lastFrom, lastRow, lastPasses, answers, isProved, lastPlace}
+use Rattle.rules.specs.Rows.{Constraint, constraint_of, objective_with, row_of, row_at}
+use Rattle.rules.specs.Solutions.{end_to_reach}
+use Rattle.rules.specs.Assumptions.{assumptions_of, is_empty}
+use Rattle.rules.specs.Claims.{Asked, nothing, absurdity, domination, asked_by, asked, last_from, last_row, last_passes, answers, is_proved, last_place}
 use Rattle.rules.specs.Sentence.Formed.{EndFormed}
-use Rattle.encoding.specs.Encodes.{EncodesClaim, noDerivation, derivationAt, Encodes}
-use Rattle.encoding.specs.EncodesLaws.{maximize-is, given-are, rows_are, derived-at}
-use Rattle.encoding.specs.Claims.{isInfeas, end_in, end-formed, claim-word}
-use Rattle.claims.specs.Asked.{against, askedSays, meets}
+use Rattle.encoding.specs.Encodes.{EncodesClaim, no_derivation, derivation_at, Encodes}
+use Rattle.encoding.specs.EncodesLaws.{maximize_is, given_are, rows_are, derived_at}
+use Rattle.encoding.specs.Claims.{is_infeas, end_in, end_formed, claim_word}
+use Rattle.claims.specs.Asked.{against, asked_says, meets}
 use Rattle.claims.specs.contracts.proving.Asked.{the_type}
 use Rattle.claims.specs.declared.proving.Asked as code
 use Rattle.claims.specs.declared.proving.Asked.TheVariants as ask
@@ -33,44 +33,44 @@ use Rattle.claims.specs.declared.proving.Asked.TheVariants as ask
 -- ---- ends
 
 -- the end to reach is the upper one for min, the lower one for max
-pub to-reach : (d : Direction) (c : Claim) {m : Bool} → m ≡ isMaximize d → end_in (not m) c ≡ endToReach d c
-to-reach d c e = ap (λ (u : Bool). end_in (not u) c) e ∙ go d c
+pub to_reach : (d : Direction) (c : Claim) {m : Bool} → m ≡ is_maximize d → end_in (not m) c ≡ end_to_reach d c
+to_reach d c e = ap (λ (u : Bool). end_in (not u) c) e ∙ go d c
   where
-    go : (d : Direction) (c : Claim) → end_in (not (isMaximize d)) c ≡ endToReach d c
+    go : (d : Direction) (c : Claim) → end_in (not (is_maximize d)) c ≡ end_to_reach d c
     go d infeas = refl
     go minimize (range lower upper) = refl
     go maximize (range lower upper) = refl
 
 -- the sense of the bound to be proved
-pub at-most-asked : (d : Direction) {m : Bool} → m ≡ isMaximize d → m ≡ true → at_most ≡ against d
-at-most-asked minimize e f = not-true (sym e ∙ f)
-at-most-asked maximize e f = refl
+pub at_most_asked : (d : Direction) {m : Bool} → m ≡ is_maximize d → m ≡ true → at_most ≡ against d
+at_most_asked minimize e f = not-true (sym e ∙ f)
+at_most_asked maximize e f = refl
 
-pub at-least-asked : (d : Direction) {m : Bool} → m ≡ isMaximize d → m ≡ false → at_least ≡ against d
-at-least-asked minimize e f = refl
-at-least-asked maximize e f = not-true (sym f ∙ e)
+pub at_least_asked : (d : Direction) {m : Bool} → m ≡ is_maximize d → m ≡ false → at_least ≡ against d
+at_least_asked minimize e f = refl
+at_least_asked maximize e f = not-true (sym f ∙ e)
 
 -- ---- what is asked
 
 module _ (tree : Tree) where
-  asked-absurdity : isInfeas tree.relation.claim ≡ true → absurdity ≡ asked tree
-  asked-absurdity e = go tree.relation.claim e
+  asked_absurdity : is_infeas tree.relation.claim ≡ true → absurdity ≡ asked tree
+  asked_absurdity e = go tree.relation.claim e
     where
-      go : (c : Claim) → isInfeas c ≡ true → absurdity ≡ askedBy tree tree.objective.direction c
+      go : (c : Claim) → is_infeas c ≡ true → absurdity ≡ asked_by tree tree.objective.direction c
       go infeas e = refl
       go (range lower upper) e = not-true e
 
   -- by the end that is asked
-  abbrev pub askedAt : Direction → End → Asked
-  askedAt d infinite = nothing
-  askedAt d (finite f) = domination (objectiveWith tree (against d) f)
+  abbrev pub asked_at : Direction → End → Asked
+  asked_at d infinite = nothing
+  asked_at d (finite f) = domination (objective_with tree (against d) f)
 
   -- the lower one for min, the upper one for max
-  asked-end : isInfeas tree.relation.claim ≡ false → {m : Bool} → m ≡ isMaximize tree.objective.direction
-      → askedAt tree.objective.direction (end_in m tree.relation.claim) ≡ asked tree
-  asked-end e q = ap (λ (m : Bool). askedAt tree.objective.direction (end_in m tree.relation.claim)) q ∙ go tree.objective.direction tree.relation.claim e
+  asked_end : is_infeas tree.relation.claim ≡ false → {m : Bool} → m ≡ is_maximize tree.objective.direction
+      → asked_at tree.objective.direction (end_in m tree.relation.claim) ≡ asked tree
+  asked_end e q = ap (λ (m : Bool). asked_at tree.objective.direction (end_in m tree.relation.claim)) q ∙ go tree.objective.direction tree.relation.claim e
     where
-      go : (d : Direction) (c : Claim) → isInfeas c ≡ false → askedAt d (end_in (isMaximize d) c) ≡ askedBy tree d c
+      go : (d : Direction) (c : Claim) → is_infeas c ≡ false → asked_at d (end_in (is_maximize d) c) ≡ asked_by tree d c
       go d infeas e = not-true (sym e)
       go minimize (range infinite upper) e = refl
       go minimize (range (finite f) upper) e = refl
@@ -79,12 +79,12 @@ module _ (tree : Tree) where
 
   -- ---- what is asked is answered
 
-  pub nothing-asked : nothing ≡ asked tree → true ≡ isProved tree
-  unfolding isProved
-  nothing-asked e = ap (answers tree) e
+  pub nothing_asked : nothing ≡ asked tree → true ≡ is_proved tree
+  unfolding is_proved
+  nothing_asked e = ap (answers tree) e
 
-  pub last-asked : (a : code.Asked) → OneOf (1 ∷ 2 ∷ []) (tag_of the_type a) → askedSays tree a ≡ asked tree → lastPasses tree (meets tree (askedSays tree a)) (lastRow tree) ≡ isProved tree
-  unfolding isProved
+  pub last-asked : (a : code.Asked) → OneOf (1 ∷ 2 ∷ []) (tag_of the_type a) → asked_says tree a ≡ asked tree → last_passes tree (meets tree (asked_says tree a)) (last_row tree) ≡ is_proved tree
+  unfolding is_proved
   last-asked ask.Nothing (inl k) e = absurd (omega (arith, k))
   last-asked ask.Nothing (inr k) e = absurd (omega (arith, k))
   last-asked ask.Absurdity k e = ap (answers tree) e
@@ -97,66 +97,66 @@ module _ {tree : Tree} {h : Header} {index : List ℕ} {values : List ℤ} {rows
   claim = tree.relation.claim
 
   -- its word, which a call told
-  module _ {r : Bool} (infeas-is : (c : Claim) → get_or index h.claim 0 ≡ claimCell (ofClaim c).0 → r ≡ isInfeas c) where
-    told : r ≡ isInfeas claim
-    told = infeas-is claim (claim-word index values h.claim h.ends claim e.claim)
+  module _ {r : Bool} (infeas-is : (c : Claim) → get_or index h.claim 0 ≡ claim_cell (of_claim c).0 → r ≡ is_infeas c) where
+    told : r ≡ is_infeas claim
+    told = infeas-is claim (claim_word index values h.claim h.ends claim e.claim)
 
     pub infeas-asked : r ≡ true → absurdity ≡ asked tree
-    infeas-asked q = asked-absurdity tree (sym told ∙ q)
+    infeas-asked q = asked_absurdity tree (sym told ∙ q)
 
     -- and the end that is asked
-    pub end-asked : r ≡ false → (x : End) → ((c : Claim) → EncodesClaim index values h.claim h.ends c → x ≡ end_in h.maximize c)
-        → (askedAt tree tree.objective.direction x ≡ asked tree) × EndFormed x
-    end-asked q x f = (
-      ap (askedAt tree tree.objective.direction) (f claim e.claim) ∙ asked-end tree (sym told ∙ q) (maximize-is e),
-      subst EndFormed (sym (f claim e.claim)) (end-formed h.maximize claim e.formed.claim-formed),
+    pub end_asked : r ≡ false → (x : End) → ((c : Claim) → EncodesClaim index values h.claim h.ends c → x ≡ end_in h.maximize c)
+        → (asked_at tree tree.objective.direction x ≡ asked tree) × EndFormed x
+    end_asked q x f = (
+      ap (asked_at tree tree.objective.direction) (f claim e.claim) ∙ asked_end tree (sym told ∙ q) (maximize_is e),
+      subst EndFormed (sym (f claim e.claim)) (end_formed h.maximize claim e.formed.claim_formed),
     )
 
 -- ---- the last derived row
 
-none_of : (k : ℕ) (ds : List Derivation) → length ds ≡ 0 → lastFrom k ds ≡ none
+none_of : (k : ℕ) (ds : List Derivation) → length ds ≡ 0 → last_from k ds ≡ none
 none_of k [] e = refl
 none_of k (d ∷ ds) e = absurd (omega arith)
 
-last_of : (k : ℕ) (d : Derivation) (ds : List Derivation) → lastFrom k (d ∷ ds) ≡ some (k + length ds, get_or (d ∷ ds) (length ds) noDerivation)
+last_of : (k : ℕ) (d : Derivation) (ds : List Derivation) → last_from k (d ∷ ds) ≡ some (k + length ds, get_or (d ∷ ds) (length ds) no_derivation)
 last_of k d [] = ap (λ (n : ℕ). some (n, d)) (sym (add-zero k))
 last_of k d (e ∷ ds) =
     let q : k + 1 + length ds ≡ k + suc (length ds) = omega arith in
-    last_of (k + 1) e ds ∙ ap (λ (n : ℕ). some (n, get_or (e ∷ ds) (length ds) noDerivation)) q
+    last_of (k + 1) e ds ∙ ap (λ (n : ℕ). some (n, get_or (e ∷ ds) (length ds) no_derivation)) q
 
 module _ {tree : Tree} {h : Header} {index : List ℕ} {values : List ℤ} {rows : List ℕ} (e : Encodes tree h index values rows) where
   -- there is none
-  pub no_last : h.rows ≤ h.given → lastRow tree ≡ none
+  pub no_last : h.rows ≤ h.given → last_row tree ≡ none
   no_last le = none_of _ tree.derivations.derivations (omega (arith, rows_are e))
 
   -- its index and its derivation
-  the_last : h.given < h.rows → lastRow tree ≡ some (h.rows - 1, derivationAt tree (h.rows - 1 - h.given))
+  the_last : h.given < h.rows → last_row tree ≡ some (h.rows - 1, derivation_at tree (h.rows - 1 - h.given))
   the_last lt = go tree.derivations.derivations (rows_are e)
     where
-      go : (ds : List Derivation) → h.rows ≡ h.given + length ds → lastFrom (length tree.constraints.rows) ds ≡ some (h.rows - 1, get_or ds (h.rows - 1 - h.given) noDerivation)
+      go : (ds : List Derivation) → h.rows ≡ h.given + length ds → last_from (length tree.constraints.rows) ds ≡ some (h.rows - 1, get_or ds (h.rows - 1 - h.given) no_derivation)
       go [] q = absurd (omega arith)
       go (d ∷ ds) q =
-          let at : length tree.constraints.rows + length ds ≡ h.rows - 1 = omega (arith, given-are e) in
+          let at : length tree.constraints.rows + length ds ≡ h.rows - 1 = omega (arith, given_are e) in
           let k : length ds ≡ h.rows - 1 - h.given = omega arith in
-          last_of _ d ds ∙ ap₂ (λ (i j : ℕ). some (i, get_or (d ∷ ds) j noDerivation)) at k
+          last_of _ d ds ∙ ap₂ (λ (i j : ℕ). some (i, get_or (d ∷ ds) j no_derivation)) at k
 
-  last_row : h.given < h.rows → (derivationAt tree (h.rows - 1 - h.given)).row ≡ row_at tree (h.rows - 1)
-  last_row lt =
+  last_row_lem : h.given < h.rows → (derivation_at tree (h.rows - 1 - h.given)).row ≡ row_at tree (h.rows - 1)
+  last_row_lem lt =
       let k : h.given + (h.rows - 1 - h.given) ≡ h.rows - 1 = omega arith in
-      sym (ap (row_at tree) (sym k) ∙ ap row_of (derived-at e (h.rows - 1 - h.given) (omega arith)))
+      sym (ap (row_at tree) (sym k) ∙ ap row_of (derived_at e (h.rows - 1 - h.given) (omega arith)))
 
-  pub place-of-last : (word : ℕ) → h.given < h.rows → (row_at tree (h.rows - 1)).name.place ≡ lastPlace word (lastRow tree)
-  place-of-last word lt = sym (ap (lastPlace word) (the_last lt) ∙ ap (λ r. r.name.place) (last_row lt))
+  pub place_of_last : (word : ℕ) → h.given < h.rows → (row_at tree (h.rows - 1)).name.place ≡ last_place word (last_row tree)
+  place_of_last word lt = sym (ap (last_place word) (the_last lt) ∙ ap (λ r. r.name.place) (last_row_lem lt))
 
   pub last-passes : (test : Constraint → Bool) → h.given < h.rows
-      → test (constraintOf tree (row_at tree (h.rows - 1))) && is_empty (assumptionsOf tree (h.rows - 1)) ≡ lastPasses tree test (lastRow tree)
+      → test (constraint_of tree (row_at tree (h.rows - 1))) && is_empty (assumptions_of tree (h.rows - 1)) ≡ last_passes tree test (last_row tree)
   last-passes test lt =
-      sym (ap (lastPasses tree test) (the_last lt) ∙ ap (λ r. test (constraintOf tree r) && is_empty (assumptionsOf tree (h.rows - 1))) (last_row lt))
+      sym (ap (last_passes tree test) (the_last lt) ∙ ap (λ r. test (constraint_of tree r) && is_empty (assumptions_of tree (h.rows - 1))) (last_row_lem lt))
 
 -- ---- two tests in order
 
-pub both-pass : {s t x y : Bool} → s ≡ x → s ≡ true → t ≡ y → t ≡ x && y
-both-pass {s} {t} {x} {y} e f g = g ∙ ap (λ (z : Bool). z && y) (sym f ∙ e)
+pub both_pass : {s t x y : Bool} → s ≡ x → s ≡ true → t ≡ y → t ≡ x && y
+both_pass {s} {t} {x} {y} e f g = g ∙ ap (λ (z : Bool). z && y) (sym f ∙ e)
 
-pub first-fails : {s x : Bool} (y : Bool) → s ≡ x → s ≡ false → false ≡ x && y
-first-fails y e f = ap (λ (z : Bool). z && y) (sym f ∙ e)
+pub first_fails : {s x : Bool} (y : Bool) → s ≡ x → s ≡ false → false ≡ x && y
+first_fails y e f = ap (λ (z : Bool). z && y) (sym f ∙ e)

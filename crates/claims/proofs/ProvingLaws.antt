@@ -7,68 +7,68 @@ use Prim.Native.Nat.{ℕ}
 use lib.IntN.{ℤ}
 use Rattle.arithmetic.specs.Fraction.{IsFraction}
 use Rattle.arithmetic.specs.declared.Fraction.{Fraction}
-use Rattle.tables.specs.Limits.{mostVariables}
+use Rattle.tables.specs.Limits.{most_variables}
 use Rattle.tables.specs.declared.Header.{Header}
 use Rattle.grammar.specs.Tree.{Row, Direction, Tree}
-use Rattle.rules.specs.Rows.{variables, valueIn, objective, termsOf, constraintOf, objectiveWith}
-use Rattle.rules.specs.Domination.{isAbsurd, dominates}
+use Rattle.rules.specs.Rows.{variables, value_in, objective, terms_of, constraint_of, objective_with}
+use Rattle.rules.specs.Domination.{is_absurd, dominates}
 use Rattle.rules.specs.Sentence.Formed.{Formed, RowFormed}
-use Rattle.senses.specs.Senses.{senseIs, constraintBy}
+use Rattle.senses.specs.Senses.{sense_is, constraint_by}
 use Rattle.senses.specs.declared.Sense.{Sense}
-use Rattle.linear.specs.Lists.{termsIn, TermsBelow}
-use Rattle.linear.specs.ListsLaws.{formed_below, fractions-in}
+use Rattle.linear.specs.Lists.{terms_in, TermsBelow}
+use Rattle.linear.specs.ListsLaws.{formed_below, fractions_in}
 use Rattle.linear.specs.Coefficients.{AreFractions}
 use Rattle.linear.specs.Comparing.{Compares}
 use Rattle.linear.specs.declared.domination.Compared.{Compared}
-use Rattle.encoding.specs.Places.{indicesAt, valuesAt}
+use Rattle.encoding.specs.Places.{indices_at, values_at}
 use Rattle.encoding.specs.Encodes.{Encodes}
-use Rattle.encoding.specs.EncodesLaws.{variables-are, maximize-is}
+use Rattle.encoding.specs.EncodesLaws.{variables_are, maximize_is}
 use Rattle.encoding.specs.Rows.{RowIs}
 use Rattle.encoding.specs.declared.rows.ListedRow.{ListedRow}
-use Rattle.grammar.specs.Header.{isMaximize}
+use Rattle.grammar.specs.Header.{is_maximize}
 use Rattle.claims.specs.Asked.{against}
 
 module _ (tree : Tree) {index : List ℕ} {values : List ℤ} {row : Row} {x : ListedRow} (is : RowIs tree index values row x) (formed : RowFormed tree row)
-    {cells : List ℕ} {parts : List ℤ} (p : cells ≡ indicesAt index x.terms) (q : parts ≡ valuesAt values x.terms) where
-  the-terms : termsIn cells parts ≡ termsOf tree row
-  the-terms = ap₂ termsIn p q ∙ is.terms-are
+    {cells : List ℕ} {parts : List ℤ} (p : cells ≡ indices_at index x.terms) (q : parts ≡ values_at values x.terms) where
+  the-terms : terms_in cells parts ≡ terms_of tree row
+  the-terms = ap₂ terms_in p q ∙ is.terms_are
 
-  terms-formed : Formed (variables tree) (termsIn cells parts)
-  terms-formed = subst (Formed (variables tree)) (sym the-terms) formed.terms-formed
+  terms_formed : Formed (variables tree) (terms_in cells parts)
+  terms_formed = subst (Formed (variables tree)) (sym the-terms) formed.terms_formed
 
-  the-constraint : constraintBy (valueIn (termsIn cells parts)) x.sense x.right ≡ constraintOf tree row
-  unfolding constraintOf
-  the-constraint = λ i. record { sense = is.sense-is i; coefficient = valueIn (the-terms i); right = is.right_is i }
+  the_constraint : constraint_by (value_in (terms_in cells parts)) x.sense x.right ≡ constraint_of tree row
+  unfolding constraint_of
+  the_constraint = λ i. record { sense = is.sense_is_lem i; coefficient = value_in (the-terms i); right = is.right_is i }
 
-  pub absurd-row : {b : Bool} → ((n : ℕ) → Formed n (termsIn cells parts) → b ≡ isAbsurd n (constraintBy (valueIn (termsIn cells parts)) x.sense x.right))
-      → b ≡ isAbsurd (variables tree) (constraintOf tree row)
-  absurd-row f = f (variables tree) terms-formed ∙ ap (isAbsurd (variables tree)) the-constraint
+  pub absurd_row : {b : Bool} → ((n : ℕ) → Formed n (terms_in cells parts) → b ≡ is_absurd n (constraint_by (value_in (terms_in cells parts)) x.sense x.right))
+      → b ≡ is_absurd (variables tree) (constraint_of tree row)
+  absurd_row f = f (variables tree) terms_formed ∙ ap (is_absurd (variables tree)) the_constraint
 
   -- the row's coefficients in arrays, held against the objective's listed terms
   module _ {rows : List ℕ} {h : Header} (e : Encodes tree h index values rows) {listed : List ℕ} {numbers : List ℤ}
-      (o : listed ≡ indicesAt index h.objective) (v : numbers ≡ valuesAt values h.objective) (coefficient : ℕ → Fraction)
-      (are : TermsBelow mostVariables (termsIn cells parts) → coefficient ≡ valueIn (termsIn cells parts)) where
-    below : TermsBelow mostVariables (termsIn cells parts)
-    below = formed_below (variables tree) mostVariables (termsIn cells parts) e.in-range.variables-most terms-formed
+      (o : listed ≡ indices_at index h.objective) (v : numbers ≡ values_at values h.objective) (coefficient : ℕ → Fraction)
+      (are : TermsBelow most_variables (terms_in cells parts) → coefficient ≡ value_in (terms_in cells parts)) where
+    below : TermsBelow most_variables (terms_in cells parts)
+    below = formed_below (variables tree) most_variables (terms_in cells parts) e.in_range.variables_most terms_formed
 
-    the-objective : termsIn listed numbers ≡ objective tree
-    the-objective = ap₂ termsIn o v ∙ e.objective-is
+    the-objective : terms_in listed numbers ≡ objective tree
+    the-objective = ap₂ terms_in o v ∙ e.objective_is
 
-    claimed : (t : Sense) (bound : Fraction) → senseIs t ≡ against tree.objective.direction → constraintBy (valueIn (termsIn listed numbers)) t bound ≡ objectiveWith tree (against tree.objective.direction) bound
-    unfolding objectiveWith
-    claimed t bound s = λ i. record { sense = s i; coefficient = valueIn (the-objective i); right = bound }
+    claimed : (t : Sense) (bound : Fraction) → sense_is t ≡ against tree.objective.direction → constraint_by (value_in (terms_in listed numbers)) t bound ≡ objective_with tree (against tree.objective.direction) bound
+    unfolding objective_with
+    claimed t bound s = λ i. record { sense = s i; coefficient = value_in (the-objective i); right = bound }
 
-    pub dominating-row : (r : Compared) {b : Bool} (t : Sense) (bound : Fraction) → IsFraction bound
-        → ((d : Direction) → h.maximize ≡ isMaximize d → senseIs t ≡ against d)
-        → (Formed h.variables (termsIn listed numbers) → AreFractions coefficient → Compares h.variables coefficient (valueIn (termsIn listed numbers)) r)
-        → ((n : ℕ) (c d : ℕ → Fraction) → Compares n c d r → IsFraction x.right → IsFraction bound → b ≡ dominates n (constraintBy c x.sense x.right) (constraintBy d t bound))
-        → b ≡ dominates (variables tree) (constraintOf tree row) (objectiveWith tree (against tree.objective.direction) bound)
-    dominating-row r {b} t bound is_bound sense compared f =
-        let fractions : AreFractions coefficient = subst AreFractions (sym (are below)) (fractions-in mostVariables (termsIn cells parts) below) in
-        let listed-formed : Formed h.variables (termsIn listed numbers) = subst (λ (n : ℕ). Formed n (termsIn listed numbers)) (sym (variables-are e)) (subst (Formed (variables tree)) (sym the-objective) e.formed.objective-formed) in
-        let right : IsFraction x.right = subst IsFraction (sym is.right_is) formed.right-fraction in
-        f h.variables coefficient (valueIn (termsIn listed numbers)) (compared listed-formed fractions) right is_bound
-        ∙ ap (λ (n : ℕ). dominates n (constraintBy coefficient x.sense x.right) (constraintBy (valueIn (termsIn listed numbers)) t bound)) (variables-are e)
+    pub dominating_row : (r : Compared) {b : Bool} (t : Sense) (bound : Fraction) → IsFraction bound
+        → ((d : Direction) → h.maximize ≡ is_maximize d → sense_is t ≡ against d)
+        → (Formed h.variables (terms_in listed numbers) → AreFractions coefficient → Compares h.variables coefficient (value_in (terms_in listed numbers)) r)
+        → ((n : ℕ) (c d : ℕ → Fraction) → Compares n c d r → IsFraction x.right → IsFraction bound → b ≡ dominates n (constraint_by c x.sense x.right) (constraint_by d t bound))
+        → b ≡ dominates (variables tree) (constraint_of tree row) (objective_with tree (against tree.objective.direction) bound)
+    dominating_row r {b} t bound is_bound sense compared f =
+        let fractions : AreFractions coefficient = subst AreFractions (sym (are below)) (fractions_in most_variables (terms_in cells parts) below) in
+        let listed-formed : Formed h.variables (terms_in listed numbers) = subst (λ (n : ℕ). Formed n (terms_in listed numbers)) (sym (variables_are e)) (subst (Formed (variables tree)) (sym the-objective) e.formed.objective_formed) in
+        let right : IsFraction x.right = subst IsFraction (sym is.right_is) formed.right_fraction in
+        f h.variables coefficient (value_in (terms_in listed numbers)) (compared listed-formed fractions) right is_bound
+        ∙ ap (λ (n : ℕ). dominates n (constraint_by coefficient x.sense x.right) (constraint_by (value_in (terms_in listed numbers)) t bound)) (variables_are e)
         ∙ ap₂ (dominates (variables tree))
-        (ap (λ (c : ℕ → Fraction). constraintBy c x.sense x.right) (are below) ∙ the-constraint)
-        (claimed t bound (sense tree.objective.direction (maximize-is e)))
+        (ap (λ (c : ℕ → Fraction). constraint_by c x.sense x.right) (are below) ∙ the_constraint)
+        (claimed t bound (sense tree.objective.direction (maximize_is e)))

@@ -3,8 +3,8 @@
 use Rattle.std.specs.Prelude.{Bool, true}
 use Rattle.arithmetic.specs.Fraction.{IsFraction}
 use Rattle.grammar.specs.Tree.{Direction, minimize, maximize, Sense, at_most, at_least, Tree}
-use Rattle.rules.specs.Rows.{variables, Constraint, objectiveWith}
-use Rattle.rules.specs.Domination.{isAbsurd, dominates}
+use Rattle.rules.specs.Rows.{variables, Constraint, objective_with}
+use Rattle.rules.specs.Domination.{is_absurd, dominates}
 use Rattle.rules.specs.Claims as claims
 use Rattle.claims.specs.declared.proving.Asked.{Asked}
 use Rattle.claims.specs.declared.proving.Asked.TheVariants as ask
@@ -15,10 +15,10 @@ against minimize = at_least
 against maximize = at_most
 
 -- for each case of the enum, what is asked
-abbrev pub askedSays : Tree → Asked → claims.Asked
-askedSays tree ask.Nothing = claims.nothing
-askedSays tree ask.Absurdity = claims.absurdity
-askedSays tree (ask.Domination bound) = claims.domination (objectiveWith tree (against tree.objective.direction) bound)
+abbrev pub asked_says : Tree → Asked → claims.Asked
+asked_says tree ask.Nothing = claims.nothing
+asked_says tree ask.Absurdity = claims.absurdity
+asked_says tree (ask.Domination bound) = claims.domination (objective_with tree (against tree.objective.direction) bound)
 
 -- a bound is a fraction
 abbrev pub AskedFormed : Asked → Type 0
@@ -29,5 +29,5 @@ AskedFormed (ask.Domination bound) = IsFraction bound
 -- whether a constraint meets what is asked
 abbrev pub meets : Tree → claims.Asked → Constraint → Bool
 meets tree claims.nothing c = true
-meets tree claims.absurdity c = isAbsurd (variables tree) c
+meets tree claims.absurdity c = is_absurd (variables tree) c
 meets tree (claims.domination d) c = dominates (variables tree) c d

@@ -4,12 +4,12 @@
 ghost use Rattle.std.specs.Prelude.{◌≡◌, List, ℕ, ℤ};
 ghost use Rattle.grammar.specs.Tree.{Tree};
 ghost use Rattle.rules.specs.Result.{require};
-ghost use Rattle.rules.specs.Solutions.{endToReach};
-ghost use Rattle.rules.specs.Claims.{lastRow, isProved, lastPlace};
+ghost use Rattle.rules.specs.Solutions.{end_to_reach};
+ghost use Rattle.rules.specs.Claims.{last_row, is_proved, last_place};
 ghost use Rattle.rules.specs.Sentence.Formed.{EndFormed};
 ghost use Rattle.encoding.specs.Encodes.{Encodes};
-ghost use Rattle.encoding.specs.Claims.{endSays};
-ghost use Rattle.verdicts.specs.Verdicts.{verdictSays};
+ghost use Rattle.encoding.specs.Claims.{end_says};
+ghost use Rattle.verdicts.specs.Verdicts.{verdict_says};
 
 use encoding::claims;
 use encoding::claims::End;
@@ -22,15 +22,15 @@ mod proving;
 
 // The end that solutions are asked to reach: ub for min, lb for max, none of `infeas`.
 pub fn end_to_reach(index: &[u16], values: &[i32], header: Header) -> End
-    ensures says { (tree : Tree) (rows : List ℕ) → Encodes tree header index.now values.now rows → endSays result ≡ endToReach tree.objective.direction tree.relation.claim }
-    ensures formed { (tree : Tree) (rows : List ℕ) → Encodes tree header index.now values.now rows → EndFormed (endSays result) }
+    ensures says { (tree : Tree) (rows : List ℕ) → Encodes tree header index.now values.now rows → end_says result ≡ end_to_reach tree.objective.direction tree.relation.claim }
+    ensures formed { (tree : Tree) (rows : List ℕ) → Encodes tree header index.now values.now rows → EndFormed (end_says result) }
 {
     claims::end_of(index, values, header.claim, header.ends, !header.maximize)
 }
 
 // "last row's name, or word `DER` if there are none".
 fn last_place(rows: &[u16], header: Header) -> usize
-    ensures { (tree : Tree) (index : List ℕ) (values : List ℤ) → Encodes tree header index values rows.now → result ≡ lastPlace header.derivation (lastRow tree) }
+    ensures { (tree : Tree) (index : List ℕ) (values : List ℤ) → Encodes tree header index values rows.now → result ≡ last_place header.derivation (last_row tree) }
 {
     if header.rows <= header.given {
         return header.derivation;
@@ -41,7 +41,7 @@ fn last_place(rows: &[u16], header: Header) -> usize
 
 // "Claim, else 17".
 pub fn check_claim(index: &[u16], values: &[i32], rows: &[u16], header: Header) -> Verdict
-    ensures { (tree : Tree) → Encodes tree header index.now values.now rows.now → verdictSays result ≡ require (isProved tree) 17 (lastPlace header.derivation (lastRow tree)) }
+    ensures { (tree : Tree) → Encodes tree header index.now values.now rows.now → verdict_says result ≡ require (is_proved tree) 17 (last_place header.derivation (last_row tree)) }
 {
     if proving::is_proved(index, values, rows, header) {
         return Verdict::Fine;

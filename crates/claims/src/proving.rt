@@ -2,15 +2,15 @@
 ghost use Rattle.std.specs.Prelude.{◌≡◌, List, ℕ};
 ghost use Rattle.arithmetic.specs.Fraction.{IsFraction};
 ghost use Rattle.grammar.specs.Tree.{Direction, Row, Tree};
-ghost use Rattle.grammar.specs.Header.{isMaximize};
-ghost use Rattle.rules.specs.Rows.{variables, constraintOf, objectiveWith};
-ghost use Rattle.rules.specs.Domination.{isAbsurd, dominates};
-ghost use Rattle.rules.specs.Claims.{lastRow, lastPasses, asked as askedBy, isProved};
+ghost use Rattle.grammar.specs.Header.{is_maximize};
+ghost use Rattle.rules.specs.Rows.{variables, constraint_of, objective_with};
+ghost use Rattle.rules.specs.Domination.{is_absurd, dominates};
+ghost use Rattle.rules.specs.Claims.{last_row, last_passes, asked as asked_by, is_proved};
 ghost use Rattle.rules.specs.Sentence.Formed.{RowFormed};
-ghost use Rattle.senses.specs.Senses.{senseIs};
+ghost use Rattle.senses.specs.Senses.{sense_is};
 ghost use Rattle.encoding.specs.Encodes.{Encodes};
 ghost use Rattle.encoding.specs.Rows.{RowIs};
-ghost use Rattle.claims.specs.Asked.{against, askedSays, AskedFormed, meets as meetsOf};
+ghost use Rattle.claims.specs.Asked.{against, asked_says, AskedFormed, meets as meets_of};
 
 use crate::assumptions;
 use arithmetic::Fraction;
@@ -31,7 +31,7 @@ pub(crate) enum Asked {
 
 // What the claim asks of the last row.
 fn asked_of(index: &[u16], values: &[i32], header: Header) -> Asked
-    ensures says { (tree : Tree) (rows : List ℕ) → Encodes tree header index.now values.now rows → askedSays tree result ≡ askedBy tree }
+    ensures says { (tree : Tree) (rows : List ℕ) → Encodes tree header index.now values.now rows → asked_says tree result ≡ asked_by tree }
     ensures formed { (tree : Tree) (rows : List ℕ) → Encodes tree header index.now values.now rows → AskedFormed result }
 {
     if claims::is_infeas(index, header.claim) {
@@ -45,7 +45,7 @@ fn asked_of(index: &[u16], values: &[i32], header: Header) -> Asked
 
 // The sense of the bound that a range asks to be proved: OBJ ≥ lb for min, OBJ ≤ ub for max.
 fn sense_asked(maximize: bool) -> Sense
-    ensures { (d : Direction) → maximize ≡ isMaximize d → senseIs result ≡ against d }
+    ensures { (d : Direction) → maximize ≡ is_maximize d → sense_is result ≡ against d }
 {
     if maximize {
         Sense::AtMost
@@ -62,7 +62,7 @@ fn dominates_objective(
     row: ListedRow,
     bound: Fraction,
 ) -> bool
-    ensures { (tree : Tree) (rows : List ℕ) (x : Row) → Encodes tree header index.now values.now rows → RowIs tree index.now values.now x row → RowFormed tree x → IsFraction bound → result ≡ dominates (variables tree) (constraintOf tree x) (objectiveWith tree (against tree.objective.direction) bound) }
+    ensures { (tree : Tree) (rows : List ℕ) (x : Row) → Encodes tree header index.now values.now rows → RowIs tree index.now values.now x row → RowFormed tree x → IsFraction bound → result ≡ dominates (variables tree) (constraint_of tree x) (objective_with tree (against tree.objective.direction) bound) }
 {
     let terms = row.terms;
     let objective = header.objective;
@@ -80,7 +80,7 @@ fn dominates_objective(
 
 // Whether a row is absurd.
 fn is_absurd(index: &[u16], values: &[i32], row: ListedRow) -> bool
-    ensures { (tree : Tree) (x : Row) → RowIs tree index.now values.now x row → RowFormed tree x → result ≡ isAbsurd (variables tree) (constraintOf tree x) }
+    ensures { (tree : Tree) (x : Row) → RowIs tree index.now values.now x row → RowFormed tree x → result ≡ is_absurd (variables tree) (constraint_of tree x) }
 {
     let terms = row.terms;
     let sense = row.sense;
@@ -91,7 +91,7 @@ fn is_absurd(index: &[u16], values: &[i32], row: ListedRow) -> bool
 
 // Whether a row meets what is asked of the last one.
 fn meets(index: &[u16], values: &[i32], header: Header, row: ListedRow, asked: Asked) -> bool
-    ensures { (tree : Tree) (rows : List ℕ) (x : Row) → Encodes tree header index.now values.now rows → RowIs tree index.now values.now x row → RowFormed tree x → AskedFormed asked → result ≡ meetsOf tree (askedSays tree asked) (constraintOf tree x) }
+    ensures { (tree : Tree) (rows : List ℕ) (x : Row) → Encodes tree header index.now values.now rows → RowIs tree index.now values.now x row → RowFormed tree x → AskedFormed asked → result ≡ meets_of tree (asked_says tree asked) (constraint_of tree x) }
 {
     match asked {
         Asked::Nothing => true,
@@ -102,7 +102,7 @@ fn meets(index: &[u16], values: &[i32], header: Header, row: ListedRow, asked: A
 
 // Whether there is a last derived row that meets what is asked, with no assumptions.
 fn last_answers(index: &[u16], values: &[i32], rows: &[u16], header: Header, asked: Asked) -> bool
-    ensures { (tree : Tree) → Encodes tree header index.now values.now rows.now → AskedFormed asked → result ≡ lastPasses tree (meetsOf tree (askedSays tree asked)) (lastRow tree) }
+    ensures { (tree : Tree) → Encodes tree header index.now values.now rows.now → AskedFormed asked → result ≡ last_passes tree (meets_of tree (asked_says tree asked)) (last_row tree) }
 {
     if header.rows <= header.given {
         return false;
@@ -118,7 +118,7 @@ fn last_answers(index: &[u16], values: &[i32], rows: &[u16], header: Header, ask
 
 // Whether the claim is proved.
 pub(crate) fn is_proved(index: &[u16], values: &[i32], rows: &[u16], header: Header) -> bool
-    ensures { (tree : Tree) → Encodes tree header index.now values.now rows.now → result ≡ isProved tree }
+    ensures { (tree : Tree) → Encodes tree header index.now values.now rows.now → result ≡ is_proved tree }
 {
     let asked = asked_of(index, values, header);
     if let Asked::Nothing = asked {

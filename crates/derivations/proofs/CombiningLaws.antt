@@ -9,33 +9,33 @@ use lib.ListN.{get_or}
 use Rattle.arithmetic.specs.Fraction.{IsFraction}
 use Rattle.arithmetic.specs.Quotient.{Quotient}
 use Rattle.arithmetic.specs.declared.Fraction.{Fraction}
-use Rattle.tables.specs.Cells.{fractionAt}
-use Rattle.tables.specs.Pairs.{pairsIn}
+use Rattle.tables.specs.Cells.{fraction_at}
+use Rattle.tables.specs.Pairs.{pairs_in}
 use Rattle.grammar.specs.Tree.{Sense, Multiplier, Tree}
 use Rattle.rules.specs.Tests.{all_of}
-use Rattle.rules.specs.Values.{isPositive, isNegative}
+use Rattle.rules.specs.Values.{is_positive, is_negative}
 use Rattle.rules.specs.Result.{Result, bind, through}
-use Rattle.rules.specs.Rows.{termsOf, row_at}
+use Rattle.rules.specs.Rows.{terms_of, row_at}
 use Rattle.rules.specs.Combinations as rules
-use Rattle.rules.specs.Combinations.{signed, nextCombination, combine}
-use Rattle.senses.specs.Signs.{signedBy, nextSigns, noneNegative, nonePositive, SignsAre}
+use Rattle.rules.specs.Combinations.{signed, next_combination, combine}
+use Rattle.senses.specs.Signs.{signed_by, next_signs, none_negative, none_positive, SignsAre}
 use Rattle.senses.specs.declared.signs.Signs.{Signs}
-use Rattle.linear.specs.Lists.{termsIn}
-use Rattle.linear.specs.ListsLaws.{listedFrom, listed_next, all-at, formed_below}
-use Rattle.linear.specs.Combinations.{within, combinationOf, combinationSays, HasFractions, Takes}
+use Rattle.linear.specs.Lists.{terms_in}
+use Rattle.linear.specs.ListsLaws.{listed_from, listed_next, all-at, formed_below}
+use Rattle.linear.specs.Combinations.{within, combination_of, combination_says, HasFractions, Takes}
 use Rattle.linear.specs.declared.combinations.Combination.{Combination}
-use Rattle.encoding.specs.Places.{indicesAt, valuesAt, aMultiplier}
+use Rattle.encoding.specs.Places.{indices_at, values_at, a_multiplier}
 use Rattle.encoding.specs.Encodes.{EncodesRow, Encodes}
 use Rattle.encoding.specs.Rows.{RowIs}
 use Rattle.tables.specs.declared.Header.{Header}
 use Rattle.encoding.specs.declared.rows.ListedRow.{ListedRow}
-use Rattle.derivations.specs.Checks.{multipliersIn, MultipliersBelow}
-use Rattle.derivations.proofs.RowsLaws.{lists-row, terms-are, terms-formed, right-fraction}
+use Rattle.derivations.specs.Checks.{multipliers_in, MultipliersBelow}
+use Rattle.derivations.proofs.RowsLaws.{lists_row, terms_are, terms_formed, right_fraction}
 
 -- multiplier k
-module _ (named : List ℕ) (factors : List ℤ) (n : ℕ) (below : MultipliersBelow n (multipliersIn named factors)) (k : ℕ) (lt : k < pairsIn named factors) where
-  pub multiplier-below : (get_or named k 0 < n) × IsFraction (fractionAt factors k)
-  multiplier-below = all-at aMultiplier named factors (λ (m : Multiplier). (m.row < n) × IsFraction m.factor) below k lt
+module _ (named : List ℕ) (factors : List ℤ) (n : ℕ) (below : MultipliersBelow n (multipliers_in named factors)) (k : ℕ) (lt : k < pairs_in named factors) where
+  pub multiplier-below : (get_or named k 0 < n) × IsFraction (fraction_at factors k)
+  multiplier-below = all-at a_multiplier named factors (λ (m : Multiplier). (m.row < n) × IsFraction m.factor) below k lt
 
 -- ---- signs
 
@@ -49,19 +49,19 @@ and-true false = refl
 
 -- the signs so far, with those of the multipliers that are left, are those of all
 pub record Signing (tree : Tree) (all left : List Multiplier) (s : Signs) : Type 0 where
-  pub nonnegative : s.nonnegative && noneNegative tree left ≡ noneNegative tree all
-  pub nonpositive : s.nonpositive && nonePositive tree left ≡ nonePositive tree all
+  pub nonnegative : s.nonnegative && none_negative tree left ≡ none_negative tree all
+  pub nonpositive : s.nonpositive && none_positive tree left ≡ none_positive tree all
 
 pub signing : (tree : Tree) (all : List Multiplier) {s : Signs} → (s.nonnegative ≡ true) × (s.nonpositive ≡ true) → Signing tree all all s
-signing tree all h = record { nonnegative = ap (λ (b : Bool). b && noneNegative tree all) h.0; nonpositive = ap (λ (b : Bool). b && nonePositive tree all) h.1 }
+signing tree all h = record { nonnegative = ap (λ (b : Bool). b && none_negative tree all) h.0; nonpositive = ap (λ (b : Bool). b && none_positive tree all) h.1 }
 
 module _ {tree : Tree} {all left rest : List Multiplier} {m : Multiplier} {s : Signs} (e : left ≡ m ∷ rest) (g : Signing tree all left s) where
-  pub signing-on : {t : Signs} (x : Quotient) → t ≡ nextSigns s x → x ≡ signed tree m → Signing tree all rest t
-  signing-on x f q =
+  pub signing_on : {t : Signs} (x : Quotient) → t ≡ next_signs s x → x ≡ signed tree m → Signing tree all rest t
+  signing_on x f q =
       subst (Signing tree all rest) (sym f)
       (record {
-        nonnegative = step (λ (m : Multiplier). not (isNegative (signed tree m))) s.nonnegative (ap (λ (y : Quotient). not (isNegative y)) q) ∙ g.nonnegative;
-        nonpositive = step (λ (m : Multiplier). not (isPositive (signed tree m))) s.nonpositive (ap (λ (y : Quotient). not (isPositive y)) q) ∙ g.nonpositive;
+        nonnegative = step (λ (m : Multiplier). not (is_negative (signed tree m))) s.nonnegative (ap (λ (y : Quotient). not (is_negative y)) q) ∙ g.nonnegative;
+        nonpositive = step (λ (m : Multiplier). not (is_positive (signed tree m))) s.nonpositive (ap (λ (y : Quotient). not (is_positive y)) q) ∙ g.nonpositive;
       })
     where
       step : (test : Multiplier → Bool) (so_far : Bool) {b : Bool} → b ≡ test m → (so_far && b) && all_of test rest ≡ so_far && all_of test left
@@ -71,71 +71,71 @@ module _ {tree : Tree} {all left rest : List Multiplier} {m : Multiplier} {s : S
 pub signing_end : {tree : Tree} {all left : List Multiplier} {s : Signs} → left ≡ [] → Signing tree all left s → SignsAre tree all s
 signing_end {tree} {s = s} e g =
     record {
-      nonnegative = sym (and-true s.nonnegative) ∙ sym (ap (λ (ms : List Multiplier). s.nonnegative && noneNegative tree ms) e) ∙ g.nonnegative;
-      nonpositive = sym (and-true s.nonpositive) ∙ sym (ap (λ (ms : List Multiplier). s.nonpositive && nonePositive tree ms) e) ∙ g.nonpositive;
+      nonnegative = sym (and-true s.nonnegative) ∙ sym (ap (λ (ms : List Multiplier). s.nonnegative && none_negative tree ms) e) ∙ g.nonnegative;
+      nonpositive = sym (and-true s.nonpositive) ∙ sym (ap (λ (ms : List Multiplier). s.nonpositive && none_positive tree ms) e) ∙ g.nonpositive;
     }
 
 -- λ s(C), where a row's sense and a factor were fetched
-pub signed_is : (tree : Tree) (m : Multiplier) {s : Sense} {f : Fraction} → s ≡ (row_at tree m.row).sense → f ≡ m.factor → signedBy s f ≡ signed tree m
-signed_is tree m p q = λ i. signedBy (p i) (q i)
+pub signed_is : (tree : Tree) (m : Multiplier) {s : Sense} {f : Fraction} → s ≡ (row_at tree m.row).sense → f ≡ m.factor → signed_by s f ≡ signed tree m
+signed_is tree m p q = λ i. signed_by (p i) (q i)
 
 -- ---- the combination
 
 -- one row more
-abbrev pub rowStep : Tree → ℕ → rules.Combination → Multiplier → Result rules.Combination
-rowStep tree place so_far m = nextCombination place m.factor (termsOf tree (row_at tree m.row)) (row_at tree m.row).right so_far
+abbrev pub row_step : Tree → ℕ → rules.Combination → Multiplier → Result rules.Combination
+row_step tree place so_far m = next_combination place m.factor (terms_of tree (row_at tree m.row)) (row_at tree m.row).right so_far
 
 -- a combination that fits, and that with the rows that are left gives that of all
 pub record Combining (tree : Tree) (all left : List Multiplier) (c : Combination) : Type 0 where
   pub fractions : HasFractions c
-  pub same : (place : ℕ) → through (rowStep tree place) (combinationOf c) left ≡ combine tree place all
+  pub same : (place : ℕ) → through (row_step tree place) (combination_of c) left ≡ combine tree place all
 
-pub combining : (tree : Tree) (all : List Multiplier) {c : Combination} → combinationOf c ≡ rules.emptyCombination → HasFractions c → Combining tree all all c
+pub combining : (tree : Tree) (all : List Multiplier) {c : Combination} → combination_of c ≡ rules.empty_combination → HasFractions c → Combining tree all all c
 unfolding combine
-combining tree all e h = record { fractions = h; same = λ place. ap (λ (s : rules.Combination). through (rowStep tree place) s all) e }
+combining tree all e h = record { fractions = h; same = λ place. ap (λ (s : rules.Combination). through (row_step tree place) s all) e }
 
 -- what comes of the next row: by whether it fits
 pub record Stepped (tree : Tree) (all left : List Multiplier) (d : Combination) : Type 0 where
   pub fractions : HasFractions d
-  pub says : (place : ℕ) → bind (combinationSays place d) (λ (u : rules.Combination). through (rowStep tree place) u left) ≡ combine tree place all
+  pub says : (place : ℕ) → bind (combination_says place d) (λ (u : rules.Combination). through (row_step tree place) u left) ≡ combine tree place all
 
 module _ {tree : Tree} {h : Header} {index : List ℕ} {values : List ℤ} {rows : List ℕ} (e : Encodes tree h index values rows) (named : List ℕ) (factors : List ℤ)
-    (below : MultipliersBelow h.rows (multipliersIn named factors)) {k : ℕ} (lt : k < pairsIn named factors) where
+    (below : MultipliersBelow h.rows (multipliers_in named factors)) {k : ℕ} (lt : k < pairs_in named factors) where
   abbrev this : Multiplier
-  this = aMultiplier (get_or named k 0) (fractionAt factors k)
+  this = a_multiplier (get_or named k 0) (fraction_at factors k)
 
   -- by what fetching the row and its multiplier gives, and what the next combination says
-  pub stepped : {c : Combination} {all : List Multiplier} → c.fits ≡ true → Combining tree all (listedFrom aMultiplier named factors k) c
+  pub stepped : {c : Combination} {all : List Multiplier} → c.fits ≡ true → Combining tree all (listed_from a_multiplier named factors k) c
       → {x : ListedRow} {vs : List ℕ} {ps : List ℤ} {factor : Fraction} → (EncodesRow tree index values rows h.objective (get_or named k 0) (row_at tree (get_or named k 0)) → RowIs tree index values (row_at tree (get_or named k 0)) x)
-      → vs ≡ indicesAt index x.terms → ps ≡ valuesAt values x.terms → factor ≡ fractionAt factors k → (d : Combination)
-      → (Takes c (termsIn vs ps) x.right factor → (place : ℕ) → combinationSays place d ≡ bind (combinationSays place c) (nextCombination place factor (termsIn vs ps) x.right))
-      → (Takes c (termsIn vs ps) x.right factor → HasFractions d) → Stepped tree all (listedFrom aMultiplier named factors (k + 1)) d
+      → vs ≡ indices_at index x.terms → ps ≡ values_at values x.terms → factor ≡ fraction_at factors k → (d : Combination)
+      → (Takes c (terms_in vs ps) x.right factor → (place : ℕ) → combination_says place d ≡ bind (combination_says place c) (next_combination place factor (terms_in vs ps) x.right))
+      → (Takes c (terms_in vs ps) x.right factor → HasFractions d) → Stepped tree all (listed_from a_multiplier named factors (k + 1)) d
   stepped {c} fits g {x} {vs} {ps} {factor} f i v q d says fractions =
       let one = multiplier-below named factors h.rows below k lt in
-      let l = lists-row e this.row one.0 (f (e.row _ one.0)) in
-      let taken : Takes c (termsIn vs ps) x.right factor =
-      record { so_far = g.fractions; terms-below = formed_below _ 256 (termsIn vs ps) l.few (terms-formed l i v); right_is = right-fraction l; factor-is = subst IsFraction (sym q) one.1 } in
+      let l = lists_row e this.row one.0 (f (e.row _ one.0)) in
+      let taken : Takes c (terms_in vs ps) x.right factor =
+      record { so_far = g.fractions; terms-below = formed_below _ 256 (terms_in vs ps) l.few (terms_formed l i v); right_is = right_fraction l; factor_is = subst IsFraction (sym q) one.1 } in
       record {
         fractions = fractions taken;
         says = λ place.
-            let rest : rules.Combination → Result rules.Combination = λ u. through (rowStep tree place) u (listedFrom aMultiplier named factors (k + 1)) in
+            let rest : rules.Combination → Result rules.Combination = λ u. through (row_step tree place) u (listed_from a_multiplier named factors (k + 1)) in
             ap (λ (r : Result rules.Combination). bind r rest) (says taken place)
-            ∙ ap (λ (b : Bool). bind (bind (within place b (combinationOf c)) (nextCombination place factor (termsIn vs ps) x.right)) rest) fits
-            ∙ (λ j. bind (nextCombination place (q j) (terms-are l i v j) (l.is.right_is j) (combinationOf c)) rest)
-            ∙ sym (ap (through (rowStep tree place) (combinationOf c)) (listed_next aMultiplier named factors k lt))
+            ∙ ap (λ (b : Bool). bind (bind (within place b (combination_of c)) (next_combination place factor (terms_in vs ps) x.right)) rest) fits
+            ∙ (λ j. bind (next_combination place (q j) (terms_are l i v j) (l.is.right_is j) (combination_of c)) rest)
+            ∙ sym (ap (through (row_step tree place) (combination_of c)) (listed_next a_multiplier named factors k lt))
             ∙ g.same place;
       }
 
 module _ {tree : Tree} {all left : List Multiplier} (d : Combination) (s : Stepped tree all left d) where
-  by-fit : (place : ℕ) {b : Bool} → d.fits ≡ b → bind (within place b (combinationOf d)) (λ (u : rules.Combination). through (rowStep tree place) u left) ≡ combine tree place all
-  by-fit place f = sym (ap (λ (b : Bool). bind (within place b (combinationOf d)) (λ (u : rules.Combination). through (rowStep tree place) u left)) f) ∙ s.says place
+  by_fit : (place : ℕ) {b : Bool} → d.fits ≡ b → bind (within place b (combination_of d)) (λ (u : rules.Combination). through (row_step tree place) u left) ≡ combine tree place all
+  by_fit place f = sym (ap (λ (b : Bool). bind (within place b (combination_of d)) (λ (u : rules.Combination). through (row_step tree place) u left)) f) ∙ s.says place
 
-  pub combining-on : d.fits ≡ true → Combining tree all left d
-  combining-on f = record { fractions = s.fractions; same = λ place. by-fit place f }
+  pub combining_on : d.fits ≡ true → Combining tree all left d
+  combining_on f = record { fractions = s.fractions; same = λ place. by_fit place f }
 
-  pub combining-stop : (place : ℕ) → d.fits ≡ false → combinationSays place d ≡ combine tree place all
-  combining-stop place f = ap (λ (b : Bool). within place b (combinationOf d)) f ∙ by-fit place f
+  pub combining_stop : (place : ℕ) → d.fits ≡ false → combination_says place d ≡ combine tree place all
+  combining_stop place f = ap (λ (b : Bool). within place b (combination_of d)) f ∙ by_fit place f
 
-pub combining-end : {tree : Tree} {all left : List Multiplier} {c : Combination} → left ≡ [] → Combining tree all left c → (place : ℕ) → c.fits ≡ true → combinationSays place c ≡ combine tree place all
-combining-end {tree} {c = c} e g place f =
-    ap (λ (b : Bool). within place b (combinationOf c)) f ∙ sym (ap (through (rowStep tree place) (combinationOf c)) e) ∙ g.same place
+pub combining_end : {tree : Tree} {all left : List Multiplier} {c : Combination} → left ≡ [] → Combining tree all left c → (place : ℕ) → c.fits ≡ true → combination_says place c ≡ combine tree place all
+combining_end {tree} {c = c} e g place f =
+    ap (λ (b : Bool). within place b (combination_of c)) f ∙ sym (ap (through (row_step tree place) (combination_of c)) e) ∙ g.same place

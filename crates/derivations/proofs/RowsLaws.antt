@@ -10,54 +10,54 @@ use Rattle.arithmetic.specs.Fraction.{IsFraction}
 use Rattle.arithmetic.specs.declared.Fraction.{Fraction}
 use Rattle.tables.specs.declared.Header.{Header}
 use Rattle.grammar.specs.Tree.{Row, Term, Tree}
-use Rattle.rules.specs.Rows.{variables, valueIn, termsOf, Constraint, constraintOf, row_at}
+use Rattle.rules.specs.Rows.{variables, value_in, terms_of, Constraint, constraint_of, row_at}
 use Rattle.rules.specs.Domination.{dominates}
 use Rattle.rules.specs.Sentence.Formed.{Formed}
-use Rattle.senses.specs.Senses.{constraintBy}
-use Rattle.linear.specs.Lists.{termsIn, TermsBelow}
-use Rattle.linear.specs.ListsLaws.{formed_below, fractions-in}
+use Rattle.senses.specs.Senses.{constraint_by}
+use Rattle.linear.specs.Lists.{terms_in, TermsBelow}
+use Rattle.linear.specs.ListsLaws.{formed_below, fractions_in}
 use Rattle.linear.specs.Coefficients.{AreFractions}
-use Rattle.encoding.specs.Places.{indicesAt, valuesAt}
+use Rattle.encoding.specs.Places.{indices_at, values_at}
 use Rattle.encoding.specs.Encodes.{Encodes}
-use Rattle.encoding.specs.EncodesLaws.{variables-are}
+use Rattle.encoding.specs.EncodesLaws.{variables_are}
 use Rattle.encoding.specs.Rows.{RowIs}
 use Rattle.encoding.specs.declared.rows.ListedRow.{ListedRow}
 use Rattle.derivations.specs.Checks.{Lists}
 
 -- a row of a certificate, fetched by its index
 module _ {tree : Tree} {h : Header} {index : List ℕ} {values : List ℤ} {rows : List ℕ} (e : Encodes tree h index values rows) where
-  pub few-are : h.variables ≤ 256
-  few-are = omega (arith, variables-are e, e.in-range.variables-most)
+  pub few_are : h.variables ≤ 256
+  few_are = omega (arith, variables_are e, e.in_range.variables_most)
 
-  pub lists-row : {x : ListedRow} (i : ℕ) → i < h.rows → RowIs tree index values (row_at tree i) x → Lists tree h.variables index values (row_at tree i) x
-  lists-row i lt k = record { is = k; formed = (e.row i lt).formed; number = sym (variables-are e); few = few-are }
+  pub lists_row : {x : ListedRow} (i : ℕ) → i < h.rows → RowIs tree index values (row_at tree i) x → Lists tree h.variables index values (row_at tree i) x
+  lists_row i lt k = record { is = k; formed = (e.row i lt).formed; number = sym (variables_are e); few = few_are }
 
 -- its terms as two parts of the tables
 module _ {tree : Tree} {n : ℕ} {index : List ℕ} {values : List ℤ} {row : Row} {x : ListedRow} (l : Lists tree n index values row x) where
-  pub right-fraction : IsFraction x.right
-  right-fraction = subst IsFraction (sym l.is.right_is) l.formed.right-fraction
+  pub right_fraction : IsFraction x.right
+  right_fraction = subst IsFraction (sym l.is.right_is) l.formed.right_fraction
 
-  module _ {vs : List ℕ} {ps : List ℤ} (e : vs ≡ indicesAt index x.terms) (f : ps ≡ valuesAt values x.terms) where
-    pub terms-are : termsIn vs ps ≡ termsOf tree row
-    terms-are = ap₂ termsIn e f ∙ l.is.terms-are
+  module _ {vs : List ℕ} {ps : List ℤ} (e : vs ≡ indices_at index x.terms) (f : ps ≡ values_at values x.terms) where
+    pub terms_are : terms_in vs ps ≡ terms_of tree row
+    terms_are = ap₂ terms_in e f ∙ l.is.terms_are
 
-    pub terms-formed : Formed n (termsIn vs ps)
-    terms-formed = subst (λ (ts : List Term). Formed n ts) (sym terms-are) (subst (λ (k : ℕ). Formed k (termsOf tree row)) l.number l.formed.terms-formed)
+    pub terms_formed : Formed n (terms_in vs ps)
+    terms_formed = subst (λ (ts : List Term). Formed n ts) (sym terms_are) (subst (λ (k : ℕ). Formed k (terms_of tree row)) l.number l.formed.terms_formed)
 
-    pub constraint-is : constraintBy (valueIn (termsIn vs ps)) x.sense x.right ≡ constraintOf tree row
-    unfolding constraintOf
-    constraint-is = λ i. record { sense = l.is.sense-is i; coefficient = valueIn (terms-are i); right = l.is.right_is i }
+    pub constraint_is : constraint_by (value_in (terms_in vs ps)) x.sense x.right ≡ constraint_of tree row
+    unfolding constraint_of
+    constraint_is = λ i. record { sense = l.is.sense_is_lem i; coefficient = value_in (terms_are i); right = l.is.right_is i }
 
-    pub dominates-row : {b : Bool} (c : Constraint) → b ≡ dominates n c (constraintBy (valueIn (termsIn vs ps)) x.sense x.right) → b ≡ dominates (variables tree) c (constraintOf tree row)
-    dominates-row c q = q ∙ (λ i. dominates (sym l.number i) c (constraint-is i))
+    pub dominates-row : {b : Bool} (c : Constraint) → b ≡ dominates n c (constraint_by (value_in (terms_in vs ps)) x.sense x.right) → b ≡ dominates (variables tree) c (constraint_of tree row)
+    dominates-row c q = q ∙ (λ i. dominates (sym l.number i) c (constraint_is i))
 
 -- the coefficients that terms in the tables give
-module _ {n : ℕ} {us ts : List Term} (k : ℕ → Fraction) (same : (TermsBelow 256 us → k ≡ valueIn us)) (e : us ≡ ts) (few : n ≤ 256) (formed : Formed n ts) where
+module _ {n : ℕ} {us ts : List Term} (k : ℕ → Fraction) (same : (TermsBelow 256 us → k ≡ value_in us)) (e : us ≡ ts) (few : n ≤ 256) (formed : Formed n ts) where
   below : TermsBelow 256 ts
   below = formed_below n 256 ts few formed
 
-  pub coefficients-are : k ≡ valueIn ts
-  coefficients-are = same (subst (TermsBelow 256) (sym e) below) ∙ ap valueIn e
+  pub coefficients_are : k ≡ value_in ts
+  coefficients_are = same (subst (TermsBelow 256) (sym e) below) ∙ ap value_in e
 
-  pub coefficients-fractions : AreFractions k
-  coefficients-fractions = subst AreFractions (sym coefficients-are) (fractions-in 256 ts below)
+  pub coefficients_fractions : AreFractions k
+  coefficients_fractions = subst AreFractions (sym coefficients_are) (fractions_in 256 ts below)

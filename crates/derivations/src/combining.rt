@@ -2,11 +2,11 @@
 ghost use Rattle.std.specs.Prelude.{List, ◌≡◌, ℕ, ℤ};
 ghost use Rattle.tables.specs.declared.Header.{Header as HeaderOf};
 ghost use Rattle.grammar.specs.Tree.{Tree};
-ghost use Rattle.rules.specs.Combinations.{combine as combineOf};
+ghost use Rattle.rules.specs.Combinations.{combine as combine_of};
 ghost use Rattle.senses.specs.Signs.{SignsAre};
-ghost use Rattle.linear.specs.Combinations.{combinationSays, HasFractions};
+ghost use Rattle.linear.specs.Combinations.{combination_says, HasFractions};
 ghost use Rattle.encoding.specs.Encodes.{Encodes};
-ghost use Rattle.derivations.specs.Checks.{multipliersIn, MultipliersBelow};
+ghost use Rattle.derivations.specs.Checks.{multipliers_in, MultipliersBelow};
 
 use encoding::rows;
 use linear::combinations::Combination;
@@ -15,7 +15,7 @@ use tables::Header;
 
 // The signs of the multipliers.
 pub(crate) fn signs_of(index: &[u16], rows: &[u16], named: &[u16], factors: &[i32]) -> Signs
-    ensures { (tree : Tree) (header : HeaderOf) (values : List ℤ) → Encodes tree header index.now values rows.now → MultipliersBelow header.rows (multipliersIn named.now factors.now) → SignsAre tree (multipliersIn named.now factors.now) result }
+    ensures { (tree : Tree) (header : HeaderOf) (values : List ℤ) → Encodes tree header index.now values rows.now → MultipliersBelow header.rows (multipliers_in named.now factors.now) → SignsAre tree (multipliers_in named.now factors.now) result }
 {
     let count = tables::pairs_in(named, factors);
     let mut signs = Signs::none();
@@ -39,8 +39,8 @@ pub(crate) fn combine(
     named: &[u16],
     factors: &[i32],
 ) -> Combination
-    ensures says { (tree : Tree) → Encodes tree header index.now values.now rows.now → MultipliersBelow header.rows (multipliersIn named.now factors.now) → (place : ℕ) → combinationSays place result ≡ combineOf tree place (multipliersIn named.now factors.now) }
-    ensures fractions { (tree : Tree) → Encodes tree header index.now values.now rows.now → MultipliersBelow header.rows (multipliersIn named.now factors.now) → HasFractions result }
+    ensures says { (tree : Tree) → Encodes tree header index.now values.now rows.now → MultipliersBelow header.rows (multipliers_in named.now factors.now) → (place : ℕ) → combination_says place result ≡ combine_of tree place (multipliers_in named.now factors.now) }
+    ensures fractions { (tree : Tree) → Encodes tree header index.now values.now rows.now → MultipliersBelow header.rows (multipliers_in named.now factors.now) → HasFractions result }
 {
     let count = tables::pairs_in(named, factors);
     let mut done = Combination::empty();

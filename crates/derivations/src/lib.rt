@@ -5,13 +5,13 @@ ghost use Rattle.std.specs.Prelude.{◌≡◌, List, ℕ, ◌+◌, ◌<◌, leng
 ghost use Rattle.arithmetic.specs.Fraction.{IsFraction};
 ghost use Rattle.arithmetic.specs.declared.Fraction.{Fraction as Value};
 ghost use Rattle.grammar.specs.Tree.{Row, Derivation, Tree};
-ghost use Rattle.rules.specs.Result.{eachFrom};
-ghost use Rattle.rules.specs.Solutions.{bestOf};
-ghost use Rattle.rules.specs.Derivations.{checkReason, checkDerivation};
+ghost use Rattle.rules.specs.Result.{each_from};
+ghost use Rattle.rules.specs.Solutions.{best_of};
+ghost use Rattle.rules.specs.Derivations.{check_reason, check_derivation};
 ghost use Rattle.encoding.specs.Places.{named_by};
-ghost use Rattle.encoding.specs.Encodes.{EncodesDerivation, derivationAt, Encodes};
-ghost use Rattle.verdicts.specs.Verdicts.{verdictSays};
-ghost use Rattle.derivations.specs.Checks.{bestSays, Checks, Lists};
+ghost use Rattle.encoding.specs.Encodes.{EncodesDerivation, derivation_at, Encodes};
+ghost use Rattle.verdicts.specs.Verdicts.{verdict_says};
+ghost use Rattle.derivations.specs.Checks.{best_says, Checks, Lists};
 
 use arithmetic::Fraction;
 use encoding::integers;
@@ -38,7 +38,7 @@ fn check_reason(
     row: ListedRow,
     named: &[u16],
 ) -> Verdict
-    ensures { (tree : Tree) (os : List Value) (r : Row) (d : Derivation) → Checks tree header index.now values.now rows.now integers.now → bestSays any best ≡ bestOf tree.objective.direction os → IsFraction best → Lists tree header.variables index.now values.now r row → own < header.rows → EncodesDerivation index.now values.now rows.now own d → named.now ≡ named_by index.now rows.now own → verdictSays result ≡ checkReason tree os r d.reason }
+    ensures { (tree : Tree) (os : List Value) (r : Row) (d : Derivation) → Checks tree header index.now values.now rows.now integers.now → best_says any best ≡ best_of tree.objective.direction os → IsFraction best → Lists tree header.variables index.now values.now r row → own < header.rows → EncodesDerivation index.now values.now rows.now own d → named.now ≡ named_by index.now rows.now own → verdict_says result ≡ check_reason tree os r d.reason }
 {
     match encoding::reasons::word_of(index, rows, own) {
         Word::Asm => Verdict::Fine,
@@ -68,7 +68,7 @@ fn check_derivation(
     best: Fraction,
     own: usize,
 ) -> Verdict
-    ensures { (tree : Tree) (os : List Value) (k : ℕ) → Checks tree header index.now values.now rows.now integers.now → bestSays any best ≡ bestOf tree.objective.direction os → IsFraction best → own ≡ header.given + k → own < header.rows → verdictSays result ≡ checkDerivation tree os own (derivationAt tree k) }
+    ensures { (tree : Tree) (os : List Value) (k : ℕ) → Checks tree header index.now values.now rows.now integers.now → best_says any best ≡ best_of tree.objective.direction os → IsFraction best → own ≡ header.given + k → own < header.rows → verdict_says result ≡ check_derivation tree os own (derivation_at tree k) }
 {
     let row = encoding::rows::row_at(index, values, rows, header.objective, own);
     let named = encoding::reasons::named_by(index, rows, own);
@@ -89,7 +89,7 @@ pub fn check_derivations(
     any: bool,
     best: Fraction,
 ) -> Verdict
-    ensures { (tree : Tree) (os : List Value) → Encodes tree header index.now values.now rows.now → bestSays any best ≡ bestOf tree.objective.direction os → IsFraction best → verdictSays result ≡ eachFrom (checkDerivation tree os) (length tree.constraints.rows) tree.derivations.derivations }
+    ensures { (tree : Tree) (os : List Value) → Encodes tree header index.now values.now rows.now → best_says any best ≡ best_of tree.objective.direction os → IsFraction best → verdict_says result ≡ each_from (check_derivation tree os) (length tree.constraints.rows) tree.derivations.derivations }
 {
     let integers = integers::marks_of(integers::integers_of(index, header.integers));
     let end = header.rows;

@@ -4,17 +4,17 @@ ghost use Rattle.arithmetic.specs.Fraction.{IsFraction};
 ghost use Rattle.grammar.specs.Tree.{Row, Multiplier, uns, Tree};
 ghost use Rattle.rules.specs.Tests.{All};
 ghost use Rattle.rules.specs.Result.{bind};
-ghost use Rattle.rules.specs.Rows.{variables, valueIn, constraintOf, row_at};
-ghost use Rattle.rules.specs.Combinations.{suitableCombination};
-ghost use Rattle.rules.specs.Splits.{isProperSplit};
-ghost use Rattle.rules.specs.Derivations.{named, checkDominates, checkUns, checkSol};
+ghost use Rattle.rules.specs.Rows.{variables, value_in, constraint_of, row_at};
+ghost use Rattle.rules.specs.Combinations.{suitable_combination};
+ghost use Rattle.rules.specs.Splits.{is_proper_split};
+ghost use Rattle.rules.specs.Derivations.{named, check_dominates, check_uns, check_sol};
 ghost use Rattle.rules.specs.Sentence.Formed.{Formed};
-ghost use Rattle.senses.specs.Senses.{constraintBy};
-ghost use Rattle.linear.specs.Coefficients.{coefficientsOf, AreFractions, VariablesAre};
-ghost use Rattle.encoding.specs.Places.{termsAt, multipliersOf};
+ghost use Rattle.senses.specs.Senses.{constraint_by};
+ghost use Rattle.linear.specs.Coefficients.{coefficients_of, AreFractions, VariablesAre};
+ghost use Rattle.encoding.specs.Places.{terms_at, multipliers_of};
 ghost use Rattle.encoding.specs.Encodes.{EncodesMultipliers, Encodes};
-ghost use Rattle.verdicts.specs.Verdicts.{verdictSays};
-ghost use Rattle.derivations.specs.Checks.{bestSays, Checks, Lists, concluded, unsplitOf};
+ghost use Rattle.verdicts.specs.Verdicts.{verdict_says};
+ghost use Rattle.derivations.specs.Checks.{best_says, Checks, Lists, concluded, unsplit_of};
 
 use crate::combining;
 use arithmetic::Fraction;
@@ -39,7 +39,7 @@ fn check_dominates<'a>(
     sense: Sense,
     right: Fraction,
 ) -> Verdict
-    ensures { (tree : Tree) (r : Row) → Lists tree n index.now values.now r row → AreFractions (coefficientsOf nums.now dens.now) → IsFraction right → verdictSays result ≡ checkDominates tree (constraintBy (coefficientsOf nums.now dens.now) sense right) r }
+    ensures { (tree : Tree) (r : Row) → Lists tree n index.now values.now r row → AreFractions (coefficients_of nums.now dens.now) → IsFraction right → verdict_says result ≡ check_dominates tree (constraint_by (coefficients_of nums.now dens.now) sense right) r }
 {
     let variables = tables::indices_of(index, row.terms);
     let parts = tables::values_of(values, row.terms);
@@ -62,7 +62,7 @@ fn check_by_terms(
     sense: Sense,
     right: Fraction,
 ) -> Verdict
-    ensures { (tree : Tree) (r : Row) → Lists tree n index.now values.now r row → Formed (variables tree) (termsAt index.now values.now terms) → IsFraction right → verdictSays result ≡ checkDominates tree (constraintBy (valueIn (termsAt index.now values.now terms)) sense right) r }
+    ensures { (tree : Tree) (r : Row) → Lists tree n index.now values.now r row → Formed (variables tree) (terms_at index.now values.now terms) → IsFraction right → verdict_says result ≡ check_dominates tree (constraint_by (value_in (terms_at index.now values.now terms)) sense right) r }
 {
     let variables = tables::indices_of(index, terms);
     let parts = tables::values_of(values, terms);
@@ -79,7 +79,7 @@ fn check_by_row(
     row: ListedRow,
     i: usize,
 ) -> Verdict
-    ensures { (tree : Tree) (r : Row) → Encodes tree header index.now values.now rows.now → Lists tree header.variables index.now values.now r row → i < header.rows → verdictSays result ≡ checkDominates tree (constraintOf tree (row_at tree i)) r }
+    ensures { (tree : Tree) (r : Row) → Encodes tree header index.now values.now rows.now → Lists tree header.variables index.now values.now r row → i < header.rows → verdict_says result ≡ check_dominates tree (constraint_of tree (row_at tree i)) r }
 {
     let by = rows::row_at(index, values, rows, header.objective, i);
     let sense = by.sense;
@@ -109,7 +109,7 @@ fn check_made<'a>(
     right: Fraction,
     rounds: bool,
 ) -> Verdict
-    ensures { (tree : Tree) (r : Row) → VariablesAre tree n integers.now → Lists tree n index.now values.now r row → AreFractions (coefficientsOf nums.now dens.now) → IsFraction right → verdictSays result ≡ concluded rounds tree r (constraintBy (coefficientsOf nums.now dens.now) sense right) }
+    ensures { (tree : Tree) (r : Row) → VariablesAre tree n integers.now → Lists tree n index.now values.now r row → AreFractions (coefficients_of nums.now dens.now) → IsFraction right → verdict_says result ≡ concluded rounds tree r (constraint_by (coefficients_of nums.now dens.now) sense right) }
 {
     if !rounds {
         return check_dominates(index, values, n, row, nums, dens, sense, right);
@@ -133,7 +133,7 @@ pub(crate) fn check_combined(
     row: ListedRow,
     rounds: bool,
 ) -> Verdict
-    ensures { (tree : Tree) (r : Row) (ms : List Multiplier) → Checks tree header index.now values.now rows.now integers.now → Lists tree header.variables index.now values.now r row → EncodesMultipliers index.now values.now (multipliersOf index.now rows.now own) ms → All (λ i. i < header.rows) (map (λ (m : Multiplier). m.row) ms) → verdictSays result ≡ bind (suitableCombination tree r.name.place ms) (concluded rounds tree r) }
+    ensures { (tree : Tree) (r : Row) (ms : List Multiplier) → Checks tree header index.now values.now rows.now integers.now → Lists tree header.variables index.now values.now r row → EncodesMultipliers index.now values.now (multipliers_of index.now rows.now own) ms → All (λ i. i < header.rows) (map (λ (m : Multiplier). m.row) ms) → verdict_says result ≡ bind (suitable_combination tree r.name.place ms) (concluded rounds tree r) }
 {
     let multipliers = reasons::multipliers_of(index, rows, own);
     let named = tables::indices_of(index, multipliers);
@@ -174,7 +174,7 @@ fn is_proper_split(
     l1: usize,
     l2: usize,
 ) -> bool
-    ensures { (tree : Tree) → Checks tree header index.now values.now rows.now integers.now → l1 < header.rows → l2 < header.rows → result ≡ isProperSplit tree l1 l2 }
+    ensures { (tree : Tree) → Checks tree header index.now values.now rows.now integers.now → l1 < header.rows → l2 < header.rows → result ≡ is_proper_split tree l1 l2 }
 {
     let c = rows::row_at(index, values, rows, header.objective, l1);
     let d = rows::row_at(index, values, rows, header.objective, l2);
@@ -211,7 +211,7 @@ pub(crate) fn check_uns(
     i2: usize,
     l2: usize,
 ) -> Verdict
-    ensures { (tree : Tree) (r : Row) → Checks tree header index.now values.now rows.now integers.now → Lists tree header.variables index.now values.now r row → All (λ i. i < header.rows) (named (uns (unsplitOf i1 l1 i2 l2))) → verdictSays result ≡ checkUns tree r (unsplitOf i1 l1 i2 l2) }
+    ensures { (tree : Tree) (r : Row) → Checks tree header index.now values.now rows.now integers.now → Lists tree header.variables index.now values.now r row → All (λ i. i < header.rows) (named (uns (unsplit_of i1 l1 i2 l2))) → verdict_says result ≡ check_uns tree r (unsplit_of i1 l1 i2 l2) }
 {
     if !is_proper_split(index, values, rows, header, integers, l1, l2) {
         return Verdict::Refused(Refusal::NoProperSplit, row.place);
@@ -234,7 +234,7 @@ pub(crate) fn check_sol(
     any: bool,
     best: Fraction,
 ) -> Verdict
-    ensures { (tree : Tree) (r : Row) (rows : List ℕ) → Encodes tree header index.now values.now rows → Lists tree header.variables index.now values.now r row → IsFraction best → verdictSays result ≡ checkSol tree (bestSays any best) r }
+    ensures { (tree : Tree) (r : Row) (rows : List ℕ) → Encodes tree header index.now values.now rows → Lists tree header.variables index.now values.now r row → IsFraction best → verdict_says result ≡ check_sol tree (best_says any best) r }
 {
     if !any {
         return Verdict::Refused(Refusal::NoSolutionListed, row.place);

@@ -3,7 +3,7 @@ ghost use Rattle.std.specs.Prelude.{◌≡◌, not, List, ◌<◌, ℤ};
 ghost use Rattle.grammar.specs.Tree.{Tree};
 ghost use Rattle.rules.specs.Tests.{All, all_of};
 ghost use Rattle.rules.specs.Rows.{entry_at};
-ghost use Rattle.rules.specs.Derivations.{isSpent};
+ghost use Rattle.rules.specs.Derivations.{is_spent};
 ghost use Rattle.encoding.specs.Encodes.{Encodes};
 
 use encoding::reasons;
@@ -11,7 +11,7 @@ use tables::{Header, words};
 
 // Whether row r is spent for the row `own`.
 fn is_spent(index: &[u16], rows: &[u16], header: Header, own: usize, r: usize) -> bool
-    ensures { (tree : Tree) (values : List ℤ) → Encodes tree header index.now values rows.now → r < header.rows → result ≡ isSpent own (entry_at tree r) }
+    ensures { (tree : Tree) (values : List ℤ) → Encodes tree header index.now values rows.now → r < header.rows → result ≡ is_spent own (entry_at tree r) }
 {
     if r < header.given {
         return false;
@@ -31,7 +31,7 @@ pub(crate) fn none_spent(
     own: usize,
     named: &[u16],
 ) -> bool
-    ensures { (tree : Tree) (values : List ℤ) → Encodes tree header index.now values rows.now → All (λ i. i < header.rows) named.now → result ≡ all_of (λ i. not (isSpent own (entry_at tree i))) named.now }
+    ensures { (tree : Tree) (values : List ℤ) → Encodes tree header index.now values rows.now → All (λ i. i < header.rows) named.now → result ≡ all_of (λ i. not (is_spent own (entry_at tree i))) named.now }
 {
     let mut k = 0;
     while k < named.len() {

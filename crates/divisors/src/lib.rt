@@ -1,7 +1,7 @@
 // Greatest common divisors by the binary method: one, or three in one loop. No public function asks anything of its caller.
 ghost use Rattle.std.specs.Prelude.{◌≡◌, ◌<◌, ◌≤◌, true};
-ghost use Rattle.integers.specs.Gcd.{gcd as gcdOf};
-ghost use Rattle.integers.specs.Binary.{Odd, oddOf, Narrow, Paired, Stepped, Going};
+ghost use Rattle.integers.specs.Gcd.{gcd as gcd_of};
+ghost use Rattle.integers.specs.Binary.{Odd, odd_of, Narrow, Paired, Stepped, Going};
 
 // Two numbers whose greatest common divisor is wanted.
 #[derive(Drop)]
@@ -22,7 +22,7 @@ pub struct Divisors {
 // The wrapped difference has as many zeros at its end as the difference, so they are counted while the numbers are compared.
 fn gcd_odd(a: u64, b: u64) -> u64
     requires { Odd a × Odd b }
-    ensures { result ≡ gcdOf a b }
+    ensures { result ≡ gcd_of a b }
 {
     let mut x = a;
     let mut y = b;
@@ -42,7 +42,7 @@ fn gcd_odd(a: u64, b: u64) -> u64
 // Both without their factors of two.
 fn odd(p: Pair) -> Pair
     requires { (0 < p.x) × (0 < p.y) }
-    ensures { (result.x ≡ oddOf p.x) × (result.y ≡ oddOf p.y) }
+    ensures { (result.x ≡ odd_of p.x) × (result.y ≡ odd_of p.y) }
 {
     let x = p.x;
     let y = p.y;
@@ -54,8 +54,8 @@ fn odd(p: Pair) -> Pair
 
 // The greatest common divisor from that of the odd numbers: of the powers of two that divide x and y, the lesser divides both.
 fn with_twos(p: Pair, g: u64) -> u64
-    requires { (0 < p.x) × (0 < p.y) × (g ≡ gcdOf (oddOf p.x) (oddOf p.y)) }
-    ensures { result ≡ gcdOf p.x p.y }
+    requires { (0 < p.x) × (0 < p.y) × (g ≡ gcd_of (odd_of p.x) (odd_of p.y)) }
+    ensures { result ≡ gcd_of p.x p.y }
 {
     let i = u64::trailing_zeros(p.x);
     let j = u64::trailing_zeros(p.y);
@@ -64,7 +64,7 @@ fn with_twos(p: Pair, g: u64) -> u64
 
 // The greatest common divisor of any two numbers.
 pub fn gcd(a: u64, b: u64) -> u64
-    ensures { result ≡ gcdOf a b }
+    ensures { result ≡ gcd_of a b }
 {
     if a == 0 {
         return b;
@@ -102,7 +102,7 @@ fn step(p: Pair) -> Pair
 // The greatest common divisor of a, where the steps have led to p.
 fn reached(a: Pair, p: Pair) -> u64
     requires { Narrow a.x a.y × Going a.x a.y p.x p.y × (p.y ≤ 1) }
-    ensures { result ≡ gcdOf a.x a.y }
+    ensures { result ≡ gcd_of a.x a.y }
 {
     if p.y == 1 {
         with_twos(a, 1)
@@ -114,7 +114,7 @@ fn reached(a: Pair, p: Pair) -> u64
 // Three greatest common divisors in one loop. Their steps do not wait for each other, and the loop ends only once.
 fn gcds_narrow(a: Pair, b: Pair, c: Pair) -> Divisors
     requires { Narrow a.x a.y × Narrow b.x b.y × Narrow c.x c.y }
-    ensures { (result.a ≡ gcdOf a.x a.y) × (result.b ≡ gcdOf b.x b.y) × (result.c ≡ gcdOf c.x c.y) }
+    ensures { (result.a ≡ gcd_of a.x a.y) × (result.b ≡ gcd_of b.x b.y) × (result.c ≡ gcd_of c.x c.y) }
 {
     let mut p = odd(a);
     let mut q = odd(b);
@@ -151,7 +151,7 @@ fn is_narrow(p: Pair) -> bool
 
 // The greatest common divisors of any three pairs: in one loop where all numbers are narrow, else one after the other.
 pub fn gcds(a: Pair, b: Pair, c: Pair) -> Divisors
-    ensures { (result.a ≡ gcdOf a.x a.y) × (result.b ≡ gcdOf b.x b.y) × (result.c ≡ gcdOf c.x c.y) }
+    ensures { (result.a ≡ gcd_of a.x a.y) × (result.b ≡ gcd_of b.x b.y) × (result.c ≡ gcd_of c.x c.y) }
 {
     if is_narrow(a) {
         if is_narrow(b) {

@@ -12,78 +12,78 @@ use lib.ListN.{get_or}
 use Rattle.arithmetic.specs.declared.Fraction.{Fraction}
 use Rattle.tables.specs.Limits.{largest}
 use Rattle.tables.specs.Words as word
-use Rattle.tables.specs.Cells.{CellIs, fractionAt, EntryIs}
+use Rattle.tables.specs.Cells.{CellIs, fraction_at, EntryIs}
 use Rattle.tables.specs.declared.Entry.{Entry}
 use Rattle.tables.specs.declared.Pairs.{Pairs}
-use Rattle.grammar.specs.Certificate.{senseCell}
+use Rattle.grammar.specs.Certificate.{sense_cell}
 use Rattle.grammar.specs.Tree.{Sense, equal, at_most, at_least, Row, Tree}
-use Rattle.rules.specs.RowsLaws.{decides-sense}
-use Rattle.senses.specs.Senses.{senseIs}
+use Rattle.rules.specs.RowsLaws.{decides_sense}
+use Rattle.senses.specs.Senses.{sense_is}
 use Rattle.senses.specs.declared.Sense as code
-use Rattle.encoding.specs.Places.{termsAt, pairsFrom, cell_of, number_of, count_of, sideAt, ownTerms, multipliersOf}
+use Rattle.encoding.specs.Places.{terms_at, pairs_from, cell_of, number_of, count_of, side_at, own_terms, multipliers_of}
 use Rattle.encoding.specs.Encodes.{EncodesRow}
 use Rattle.encoding.specs.Rows.{RowIs, ReasonIs}
 
 -- ---- senses
 
 -- a sense is known by its cell
-pub sense-by : (t s : Sense) {cell : ℕ} → cell ≡ senseCell t → cell ≡ senseCell s → t ≡ s
-sense-by t s e f = (decides-sense t s).0 (eq-eqb (senseCell t) (senseCell s) (sym e ∙ f))
+pub sense_by_lem : (t s : Sense) {cell : ℕ} → cell ≡ sense_cell t → cell ≡ sense_cell s → t ≡ s
+sense_by_lem t s e f = (decides_sense t s).0 (eq-eqb (sense_cell t) (sense_cell s) (sym e ∙ f))
 
-pub sense-other : (s : Sense) {cell : ℕ} → (cell ≡ word.E → ⊥) → (cell ≡ word.L → ⊥) → cell ≡ senseCell s → at_least ≡ s
-sense-other equal p q e = absurd (p e)
-sense-other at_most p q e = absurd (q e)
-sense-other at_least p q e = refl
+pub sense_other : (s : Sense) {cell : ℕ} → (cell ≡ word.E → ⊥) → (cell ≡ word.L → ⊥) → cell ≡ sense_cell s → at_least ≡ s
+sense_other equal p q e = absurd (p e)
+sense_other at_most p q e = absurd (q e)
+sense_other at_least p q e = refl
 
 -- ---- the terms of a row
 
-pub own-some : (count : ℕ) → (count ≡ word.OBJ → ⊥) → count ≡ ownTerms count
-unfolding ownTerms
-own-some count n = sym (ap (λ (b : Bool). cond b 0 count) (ne_eqb count word.OBJ n))
+pub own_some : (count : ℕ) → (count ≡ word.OBJ → ⊥) → count ≡ own_terms count
+unfolding own_terms
+own_some count n = sym (ap (λ (b : Bool). cond b 0 count) (ne_eqb count word.OBJ n))
 
-pub own-none : (count : ℕ) → count ≡ word.OBJ → 0 ≡ ownTerms count
-unfolding ownTerms
-own-none count e = sym (ap (λ (b : Bool). cond b 0 count) (eq-eqb count word.OBJ e))
+pub own_none : (count : ℕ) → count ≡ word.OBJ → 0 ≡ own_terms count
+unfolding own_terms
+own_none count e = sym (ap (λ (b : Bool). cond b 0 count) (eq-eqb count word.OBJ e))
 
 -- a row has at most as many terms of its own as the cell says
-pub own-most : (count : ℕ) → ownTerms count ≤ count
-unfolding ownTerms
-own-most count = go (eqb count word.OBJ)
+pub own_most : (count : ℕ) → own_terms count ≤ count
+unfolding own_terms
+own_most count = go (eqb count word.OBJ)
   where
     go : (b : Bool) → cond b 0 count ≤ count
     go true = omega arith
     go false = omega arith
 
 module _ {index : List ℕ} (objective : Pairs) (cell number : ℕ) {count : ℕ} (c : CellIs index (cell + 1) count) where
-  pub side-objective : count ≡ word.OBJ → objective ≡ sideAt index objective cell number
-  unfolding sideAt
-  side-objective q = sym (ap (λ (b : Bool). cond b objective (pairsFrom index (cell + 1) (number + 1))) (eq-eqb (get_or index (cell + 1) 0) word.OBJ (sym c.is ∙ q)))
+  pub side-objective : count ≡ word.OBJ → objective ≡ side_at index objective cell number
+  unfolding side_at
+  side-objective q = sym (ap (λ (b : Bool). cond b objective (pairs_from index (cell + 1) (number + 1))) (eq-eqb (get_or index (cell + 1) 0) word.OBJ (sym c.is ∙ q)))
 
-  pub side-own : (count ≡ word.OBJ → ⊥) → record { cell = cell + 1 + 1; number = number + 1; count = count } ≡ sideAt index objective cell number
-  unfolding sideAt
+  pub side-own : (count ≡ word.OBJ → ⊥) → record { cell = cell + 1 + 1; number = number + 1; count = count } ≡ side_at index objective cell number
+  unfolding side_at
   side-own n =
       (λ i. record { cell = cell + 1 + 1; number = number + 1; count = c.is i })
-      ∙ sym (ap (λ (b : Bool). cond b objective (pairsFrom index (cell + 1) (number + 1))) (ne_eqb (get_or index (cell + 1) 0) word.OBJ (λ q. n (c.is ∙ q))))
+      ∙ sym (ap (λ (b : Bool). cond b objective (pairs_from index (cell + 1) (number + 1))) (ne_eqb (get_or index (cell + 1) 0) word.OBJ (λ q. n (c.is ∙ q))))
 
 module _ {index rows : List ℕ} {r : ℕ} {e : Entry} (h : EntryIs rows r e) {count : ℕ} (c : CellIs index (e.cell + 1) count) where
-  count-is : count ≡ count_of index rows r
-  count-is = c.is ∙ ap (λ (i : ℕ). get_or index (i + 1) 0) h.cell.is
+  count_is : count ≡ count_of index rows r
+  count_is = c.is ∙ ap (λ (i : ℕ). get_or index (i + 1) 0) h.cell.is
 
   -- ---- the reason, after them
 
-  module _ {own : ℕ} (o : own ≡ ownTerms count) where
-    own_is : own ≡ ownTerms (count_of index rows r)
-    own_is = o ∙ ap ownTerms count-is
+  module _ {own : ℕ} (o : own ≡ own_terms count) where
+    own_is : own ≡ own_terms (count_of index rows r)
+    own_is = o ∙ ap own_terms count_is
 
-    pub own-small : own ≤ largest
-    own-small = omega (arith, o, own-most count, c.small)
+    pub own_small : own ≤ largest
+    own_small = omega (arith, o, own_most count, c.small)
 
-    pub reason-is : ReasonIs index rows r (e.cell + 2 + own)
-    reason-is = record { is = (λ i. h.cell.is i + 2 + own_is i); small = omega (arith, own-small, h.cell.small) }
+    pub reason_is : ReasonIs index rows r (e.cell + 2 + own)
+    reason_is = record { is = (λ i. h.cell.is i + 2 + own_is i); small = omega (arith, own_small, h.cell.small) }
 
-    pub multipliers-are : {many : ℕ} → CellIs index (e.cell + 2 + own + 1) many
-        → record { cell = e.cell + 2 + own + 1 + 1; number = e.number + 1 + own; count = many } ≡ multipliersOf index rows r
-    multipliers-are m =
+    pub multipliers_are : {many : ℕ} → CellIs index (e.cell + 2 + own + 1) many
+        → record { cell = e.cell + 2 + own + 1 + 1; number = e.number + 1 + own; count = many } ≡ multipliers_of index rows r
+    multipliers_are m =
         λ i.
         record {
           cell = h.cell.is i + 2 + own_is i + 1 + 1;
@@ -92,24 +92,24 @@ module _ {index rows : List ℕ} {r : ℕ} {e : Entry} (h : EntryIs rows r e) {c
         }
 
 -- the pairs whose count stands in an entry's cell
-pub pairs-at : (index rows : List ℕ) (r : ℕ) {e : Entry} → EntryIs rows r e → {count : ℕ} → CellIs index e.cell count
-    → record { cell = e.cell + 1; number = e.number; count = count } ≡ pairsFrom index (cell_of rows r) (number_of rows r)
-pairs-at index rows r h c =
+pub pairs_at : (index rows : List ℕ) (r : ℕ) {e : Entry} → EntryIs rows r e → {count : ℕ} → CellIs index e.cell count
+    → record { cell = e.cell + 1; number = e.number; count = count } ≡ pairs_from index (cell_of rows r) (number_of rows r)
+pairs_at index rows r h c =
     λ i. record { cell = h.cell.is i + 1; number = h.number.is i; count = (c.is ∙ ap (λ (k : ℕ). get_or index k 0) h.cell.is) i }
 
 -- the sense of a row, by the cell of its entry
-pub sense-found : {tree : Tree} {index : List ℕ} {values : List ℤ} {rows : List ℕ} {objective : Pairs} {r : ℕ} {row : Row} {e : Entry} (sense : code.Sense) {cell : ℕ}
-    → EntryIs rows r e → CellIs index e.cell cell → ((s : Sense) → cell ≡ senseCell s → senseIs sense ≡ s) → EncodesRow tree index values rows objective r row → senseIs sense ≡ row.sense
-sense-found {index = index} {row = row} sense h c s k = s row.sense (c.is ∙ ap (λ (i : ℕ). get_or index i 0) h.cell.is ∙ k.sense-is)
+pub sense_found : {tree : Tree} {index : List ℕ} {values : List ℤ} {rows : List ℕ} {objective : Pairs} {r : ℕ} {row : Row} {e : Entry} (sense : code.Sense) {cell : ℕ}
+    → EntryIs rows r e → CellIs index e.cell cell → ((s : Sense) → cell ≡ sense_cell s → sense_is sense ≡ s) → EncodesRow tree index values rows objective r row → sense_is sense ≡ row.sense
+sense_found {index = index} {row = row} sense h c s k = s row.sense (c.is ∙ ap (λ (i : ℕ). get_or index i 0) h.cell.is ∙ k.sense_is_lem)
 
 -- a row, by the cells of its entry
 pub row_is : {tree : Tree} {index : List ℕ} {values : List ℤ} {rows : List ℕ} {objective : Pairs} {r : ℕ} {row : Row} {e : Entry} {sense : code.Sense} {cell : ℕ} {right : Fraction} {terms : Pairs}
-    → EntryIs rows r e → CellIs index e.cell cell → ((s : Sense) → cell ≡ senseCell s → senseIs sense ≡ s) → right ≡ fractionAt values e.number → terms ≡ sideAt index objective e.cell e.number
+    → EntryIs rows r e → CellIs index e.cell cell → ((s : Sense) → cell ≡ sense_cell s → sense_is sense ≡ s) → right ≡ fraction_at values e.number → terms ≡ side_at index objective e.cell e.number
     → EncodesRow tree index values rows objective r row → RowIs tree index values row (record { place = e.place; sense = sense; right = right; terms = terms })
 row_is {index = index} {values = values} {objective = objective} {sense = sense} h c s v t k =
     record {
       place_is = h.place.is ∙ k.place_is;
-      sense-is = sense-found sense h c s k;
-      right_is = v ∙ ap (fractionAt values) h.number.is ∙ k.right_is;
-      terms-are = ap (termsAt index values) (t ∙ (λ i. sideAt index objective (h.cell.is i) (h.number.is i))) ∙ k.terms-are;
+      sense_is_lem = sense_found sense h c s k;
+      right_is = v ∙ ap (fraction_at values) h.number.is ∙ k.right_is;
+      terms_are = ap (terms_at index values) (t ∙ (λ i. side_at index objective (h.cell.is i) (h.number.is i))) ∙ k.terms_are;
     }

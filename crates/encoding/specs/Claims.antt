@@ -3,21 +3,21 @@
 use Rattle.std.specs.Prelude.{◌≡◌, Bool, true, false, cond, List, ℕ, ℤ, get_or}
 use Rattle.grammar.specs.Tree.{infinite, finite, Claim, infeas, range}
 use Rattle.grammar.specs.Tree as tree
-use Rattle.grammar.specs.Certificate.{claimCell, ofClaim}
+use Rattle.grammar.specs.Certificate.{claim_cell, of_claim}
 use Rattle.rules.specs.Sentence.Formed.{EndFormed, ClaimFormed}
 use Rattle.encoding.specs.Encodes.{EncodesClaim}
 use Rattle.encoding.specs.declared.claims.End.{End}
 use Rattle.encoding.specs.declared.claims.End.TheVariants as end
 
 -- for each case of the enum, the end that it is
-abbrev pub endSays : End → tree.End
-endSays end.Infinite = infinite
-endSays (end.Finite f) = finite f
+abbrev pub end_says : End → tree.End
+end_says end.Infinite = infinite
+end_says (end.Finite f) = finite f
 
 -- the claim is `infeas`
-abbrev pub isInfeas : Claim → Bool
-isInfeas infeas = true
-isInfeas (range lower upper) = false
+abbrev pub is_infeas : Claim → Bool
+is_infeas infeas = true
+is_infeas (range lower upper) = false
 
 -- the upper or the lower end of a range; none of `infeas`
 abbrev pub end_in : Bool → Claim → tree.End
@@ -25,12 +25,12 @@ end_in upper infeas = infinite
 end_in upper (range low high) = cond upper high low
 
 -- an end of a claim that is well formed is well formed
-pub end-formed : (upper : Bool) (c : Claim) → ClaimFormed c → EndFormed (end_in upper c)
-end-formed upper infeas h = tt
-end-formed true (range low high) h = h.1
-end-formed false (range low high) h = h.0
+pub end_formed : (upper : Bool) (c : Claim) → ClaimFormed c → EndFormed (end_in upper c)
+end_formed upper infeas h = tt
+end_formed true (range low high) h = h.1
+end_formed false (range low high) h = h.0
 
 -- the word of an encoded claim
-pub claim-word : (index : List ℕ) (values : List ℤ) (cell n : ℕ) (c : Claim) → EncodesClaim index values cell n c → get_or index cell 0 ≡ claimCell (ofClaim c).0
-claim-word index values cell n infeas h = h
-claim-word index values cell n (range low high) h = h.0.0
+pub claim_word : (index : List ℕ) (values : List ℤ) (cell n : ℕ) (c : Claim) → EncodesClaim index values cell n c → get_or index cell 0 ≡ claim_cell (of_claim c).0
+claim_word index values cell n infeas h = h
+claim_word index values cell n (range low high) h = h.0.0

@@ -3,38 +3,38 @@
 -- Assumes nothing.
 use Rattle.std.specs.Prelude.{Bool, cond, ◌||◌, List, [], ℕ, ◌+◌, ◌*◌, eqb, ℤ, get_or}
 use Rattle.arithmetic.specs.declared.Fraction.{Fraction}
-use Rattle.tables.specs.Limits.{mostRows}
+use Rattle.tables.specs.Limits.{most_rows}
 use Rattle.tables.specs.Words as word
 use Rattle.tables.specs.Cells.{part}
-use Rattle.tables.specs.Pairs.{listedIn}
+use Rattle.tables.specs.Pairs.{listed_in}
 use Rattle.tables.specs.declared.Pairs.{Pairs}
 use Rattle.grammar.specs.Tree.{Term, Multiplier}
 
 -- ---- lists
 
 -- the indices of listed pairs, and their values by turns
-abbrev pub indicesAt : List ℕ → Pairs → List ℕ
-indicesAt index p = part p.cell p.count index
+abbrev pub indices_at : List ℕ → Pairs → List ℕ
+indices_at index p = part p.cell p.count index
 
-abbrev pub valuesAt : List ℤ → Pairs → List ℤ
-valuesAt values p = part (2 * p.number) (2 * p.count) values
+abbrev pub values_at : List ℤ → Pairs → List ℤ
+values_at values p = part (2 * p.number) (2 * p.count) values
 
-abbrev pub aTerm : ℕ → Fraction → Term
-aTerm v f = record { variable = v; coefficient = f }
+abbrev pub a_term : ℕ → Fraction → Term
+a_term v f = record { variable = v; coefficient = f }
 
-abbrev pub aMultiplier : ℕ → Fraction → Multiplier
-aMultiplier r f = record { row = r; factor = f }
+abbrev pub a_multiplier : ℕ → Fraction → Multiplier
+a_multiplier r f = record { row = r; factor = f }
 
 -- the terms, the multipliers that stand there
-abbrev pub termsAt : List ℕ → List ℤ → Pairs → List Term
-termsAt index values p = listedIn aTerm (indicesAt index p) (valuesAt values p)
+abbrev pub terms_at : List ℕ → List ℤ → Pairs → List Term
+terms_at index values p = listed_in a_term (indices_at index p) (values_at values p)
 
-abbrev pub multipliersAt : List ℕ → List ℤ → Pairs → List Multiplier
-multipliersAt index values p = listedIn aMultiplier (indicesAt index p) (valuesAt values p)
+abbrev pub multipliers_at : List ℕ → List ℤ → Pairs → List Multiplier
+multipliers_at index values p = listed_in a_multiplier (indices_at index p) (values_at values p)
 
 -- the pairs whose count stands in this cell, and whose first value has this number
-abbrev pub pairsFrom : List ℕ → ℕ → ℕ → Pairs
-pairsFrom index cell n = record { cell = cell + 1; number = n; count = get_or index cell 0 }
+abbrev pub pairs_from : List ℕ → ℕ → ℕ → Pairs
+pairs_from index cell n = record { cell = cell + 1; number = n; count = get_or index cell 0 }
 
 -- the integer variables: n and their count stand before them
 abbrev pub integers_at : List ℕ → ℕ → List ℕ
@@ -57,49 +57,49 @@ abbrev pub count_of : List ℕ → List ℕ → ℕ → ℕ
 count_of index rows r = get_or index (cell_of rows r + 1) 0
 
 -- where its terms stand, which may be the objective's: "`OBJ` instead of a term list is 65,535"
-unfoldable pub sideAt : List ℕ → Pairs → ℕ → ℕ → Pairs
-sideAt index objective cell number = cond (eqb (get_or index (cell + 1) 0) word.OBJ) objective (pairsFrom index (cell + 1) (number + 1))
+unfoldable pub side_at : List ℕ → Pairs → ℕ → ℕ → Pairs
+side_at index objective cell number = cond (eqb (get_or index (cell + 1) 0) word.OBJ) objective (pairs_from index (cell + 1) (number + 1))
 
 abbrev pub side_of : List ℕ → List ℕ → Pairs → ℕ → Pairs
-side_of index rows objective r = sideAt index objective (cell_of rows r) (number_of rows r)
+side_of index rows objective r = side_at index objective (cell_of rows r) (number_of rows r)
 
 -- "Row 1,024+j, solution j: name place, length, cell of its count, number of values read before it"
-abbrev pub solutionOf : List ℕ → List ℕ → ℕ → Pairs
-solutionOf index rows j = pairsFrom index (cell_of rows (mostRows + j)) (number_of rows (mostRows + j))
+abbrev pub solution_of : List ℕ → List ℕ → ℕ → Pairs
+solution_of index rows j = pairs_from index (cell_of rows (most_rows + j)) (number_of rows (most_rows + j))
 
 -- ---- the reasons of derived rows
 
 -- how many terms of its own a row lists
-unfoldable pub ownTerms : ℕ → ℕ
-ownTerms count = cond (eqb count word.OBJ) 0 count
+unfoldable pub own_terms : ℕ → ℕ
+own_terms count = cond (eqb count word.OBJ) 0 count
 
 -- the cell of the reason's word, after the row's cells
-abbrev pub reasonOf : List ℕ → List ℕ → ℕ → ℕ
-reasonOf index rows r = cell_of rows r + 2 + ownTerms (count_of index rows r)
+abbrev pub reason_of : List ℕ → List ℕ → ℕ → ℕ
+reason_of index rows r = cell_of rows r + 2 + own_terms (count_of index rows r)
 
 abbrev pub word_of : List ℕ → List ℕ → ℕ → ℕ
-word_of index rows r = get_or index (reasonOf index rows r) 0
+word_of index rows r = get_or index (reason_of index rows r) 0
 
 -- `lin` or `rnd`: a count and that many pairs follow
-abbrev pub isCombined : ℕ → Bool
-isCombined w = eqb w word.lin || eqb w word.rnd
+abbrev pub is_combined : ℕ → Bool
+is_combined w = eqb w word.lin || eqb w word.rnd
 
 -- where its multipliers stand
-abbrev pub multipliersOf : List ℕ → List ℕ → ℕ → Pairs
-multipliersOf index rows r = pairsFrom index (reasonOf index rows r + 1) (number_of rows r + 1 + ownTerms (count_of index rows r))
+abbrev pub multipliers_of : List ℕ → List ℕ → ℕ → Pairs
+multipliers_of index rows r = pairs_from index (reason_of index rows r + 1) (number_of rows r + 1 + own_terms (count_of index rows r))
 
 -- the rows that it names: i1 l1 i2 l2, or those of its pairs
 unfoldable pub named_by : List ℕ → List ℕ → ℕ → List ℕ
 named_by index rows r =
-    cond (eqb (word_of index rows r) word.uns) (part (reasonOf index rows r + 1) 4 index)
-    (cond (isCombined (word_of index rows r)) (indicesAt index (multipliersOf index rows r)) [])
+    cond (eqb (word_of index rows r) word.uns) (part (reason_of index rows r + 1) 4 index)
+    (cond (is_combined (word_of index rows r)) (indices_at index (multipliers_of index rows r)) [])
 
 -- how many cells follow the word, by the cell after it
-unfoldable pub afterWord : ℕ → ℕ → ℕ
-afterWord w count = cond (eqb w word.uns) 4 (cond (isCombined w) (1 + count) 0)
+unfoldable pub after_word : ℕ → ℕ → ℕ
+after_word w count = cond (eqb w word.uns) 4 (cond (is_combined w) (1 + count) 0)
 
 -- the last index, after the reason's cells
 abbrev pub last_of : List ℕ → List ℕ → ℕ → ℕ
 last_of index rows r =
-    let reason = reasonOf index rows r in
-    get_or index (reason + 1 + afterWord (get_or index reason 0) (get_or index (reason + 1) 0)) 0
+    let reason = reason_of index rows r in
+    get_or index (reason + 1 + after_word (get_or index reason 0) (get_or index (reason + 1) 0)) 0

@@ -3,10 +3,10 @@
 use Rattle.std.specs.Prelude.{◌≡◌, List, ℕ, ◌≤◌, ℤ}
 use Rattle.tables.specs.Limits.{largest}
 use Rattle.grammar.specs.Tree.{Row, Tree}
-use Rattle.grammar.specs.Certificate.{ReasonWord, asmWord, linWord, rndWord, unsWord, solWord}
-use Rattle.rules.specs.Rows.{termsOf}
-use Rattle.senses.specs.Senses.{senseIs}
-use Rattle.encoding.specs.Places.{termsAt, reasonOf, last_of}
+use Rattle.grammar.specs.Certificate.{ReasonWord, asm_word, lin_word, rnd_word, uns_word, sol_word}
+use Rattle.rules.specs.Rows.{terms_of}
+use Rattle.senses.specs.Senses.{sense_is}
+use Rattle.encoding.specs.Places.{terms_at, reason_of, last_of}
 use Rattle.encoding.specs.declared.rows.ListedRow.{ListedRow}
 use Rattle.encoding.specs.declared.reasons.Word.{Word}
 use Rattle.encoding.specs.declared.reasons.Word.TheVariants.{Asm, Lin, Rnd, Uns, Sol}
@@ -14,13 +14,13 @@ use Rattle.encoding.specs.declared.reasons.Word.TheVariants.{Asm, Lin, Rnd, Uns,
 -- a row with its terms where they stand in these tables
 pub record RowIs (tree : Tree) (index : List ℕ) (values : List ℤ) (row : Row) (x : ListedRow) : Type 0 where
   pub place_is : x.place ≡ row.name.place
-  pub sense-is : senseIs x.sense ≡ row.sense
+  pub sense_is_lem : sense_is x.sense ≡ row.sense
   pub right_is : x.right ≡ row.right
-  pub terms-are : termsAt index values x.terms ≡ termsOf tree row
+  pub terms_are : terms_at index values x.terms ≡ terms_of tree row
 
 -- the cell of a reason's word: that of its row, its own two cells and those of its terms
 pub record ReasonIs (index rows : List ℕ) (r q : ℕ) : Type 0 where
-  pub is : q ≡ reasonOf index rows r
+  pub is : q ≡ reason_of index rows r
   pub small : q ≤ 131072
 
 -- a last index
@@ -29,9 +29,9 @@ pub record LastIs (index rows : List ℕ) (r l : ℕ) : Type 0 where
   pub small : l ≤ largest
 
 -- for each case of the enum, the word of a reason
-abbrev pub wordSays : Word → ReasonWord
-wordSays Asm = asmWord
-wordSays Lin = linWord
-wordSays Rnd = rndWord
-wordSays Uns = unsWord
-wordSays Sol = solWord
+abbrev pub word_says : Word → ReasonWord
+word_says Asm = asm_word
+word_says Lin = lin_word
+word_says Rnd = rnd_word
+word_says Uns = uns_word
+word_says Sol = sol_word

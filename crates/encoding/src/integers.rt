@@ -1,7 +1,7 @@
 // The integer variables.
 ghost use Rattle.std.specs.Prelude.{◌≡◌, false, ◌&&◌, ℕ, eqb, ltb, get_or};
-ghost use Rattle.tables.specs.Limits.{mostVariables};
-ghost use Rattle.rules.specs.Tests.{someOf};
+ghost use Rattle.tables.specs.Limits.{most_variables};
+ghost use Rattle.rules.specs.Tests.{some_of};
 ghost use Rattle.encoding.specs.Places.{integers_at};
 
 use tables::limits;
@@ -18,7 +18,7 @@ pub fn integers_of(index: &[u16], count: usize) -> &[u16]
 
 // Which variables a list has.
 pub fn marks_of(variables: &[u16]) -> [bool; 256]
-    ensures { (v : ℕ) → get_or result v false ≡ ltb v mostVariables && someOf (λ i. eqb i v) variables.now }
+    ensures { (v : ℕ) → get_or result v false ≡ ltb v most_variables && some_of (λ i. eqb i v) variables.now }
 {
     let mut marks = [false; 256];
     let mut k = 0;

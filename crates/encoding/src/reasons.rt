@@ -1,9 +1,9 @@
 // The reasons of derived rows, and their last indices.
 ghost use Rattle.std.specs.Prelude.{◌≡◌, ◌≤◌};
 ghost use Rattle.tables.specs.Limits.{largest};
-ghost use Rattle.grammar.specs.Certificate.{ReasonWord, reasonCell};
-ghost use Rattle.encoding.specs.Places.{ownTerms, word_of, isCombined, multipliersOf, named_by, afterWord, last_of};
-ghost use Rattle.encoding.specs.Rows.{ReasonIs, LastIs, wordSays};
+ghost use Rattle.grammar.specs.Certificate.{ReasonWord, reason_cell};
+ghost use Rattle.encoding.specs.Places.{own_terms, word_of, is_combined, multipliers_of, named_by, after_word, last_of};
+ghost use Rattle.encoding.specs.Rows.{ReasonIs, LastIs, word_says};
 
 use tables::{Pairs, words};
 
@@ -19,7 +19,7 @@ pub enum Word {
 
 // How many terms of its own a row lists, by the cell after its sense.
 fn own_terms(count: usize) -> usize
-    ensures { result ≡ ownTerms count }
+    ensures { result ≡ own_terms count }
 {
     if count == words::OBJ { 0 } else { count }
 }
@@ -34,7 +34,7 @@ fn reason_of(index: &[u16], rows: &[u16], r: usize) -> usize
 
 // The word of row r's reason.
 pub fn word_of(index: &[u16], rows: &[u16], r: usize) -> Word
-    ensures { (x : ReasonWord) → word_of index.now rows.now r ≡ reasonCell x → wordSays result ≡ x }
+    ensures { (x : ReasonWord) → word_of index.now rows.now r ≡ reason_cell x → word_says result ≡ x }
 {
     let cell = reason_of(index, rows, r);
     let word = tables::cell_at(index, cell);
@@ -55,7 +55,7 @@ pub fn word_of(index: &[u16], rows: &[u16], r: usize) -> Word
 
 // Where the multipliers of row r's reason stand, if it is `lin` or `rnd`.
 pub fn multipliers_of(index: &[u16], rows: &[u16], r: usize) -> Pairs
-    ensures { result ≡ multipliersOf index.now rows.now r }
+    ensures { result ≡ multipliers_of index.now rows.now r }
 {
     let e = tables::entry_at(rows, r);
     let own = own_terms(tables::cell_at(index, e.cell + 1));
@@ -70,7 +70,7 @@ pub fn multipliers_of(index: &[u16], rows: &[u16], r: usize) -> Pairs
 
 // `lin` or `rnd`.
 fn is_combined(word: usize) -> bool
-    ensures { result ≡ isCombined word }
+    ensures { result ≡ is_combined word }
 {
     if word == words::LIN {
         return true;
@@ -96,7 +96,7 @@ pub fn named_by<'a>(index: &'a [u16], rows: &[u16], r: usize) -> &'a [u16]
 // How many cells follow a reason's word, by the cell after it.
 fn after_word(word: usize, count: usize) -> usize
     requires { count ≤ largest }
-    ensures { result ≡ afterWord word count }
+    ensures { result ≡ after_word word count }
 {
     if word == words::UNS {
         return 4;

@@ -3,9 +3,9 @@ ghost use Rattle.std.specs.Prelude.{◌≡◌, List, ◌≤◌, ℤ};
 ghost use Rattle.tables.specs.Limits.{largest};
 ghost use Rattle.tables.specs.declared.Pairs.{Pairs as PairsOf};
 ghost use Rattle.grammar.specs.Tree.{Sense as TreeSense, Row, Tree};
-ghost use Rattle.grammar.specs.Certificate.{senseCell};
-ghost use Rattle.senses.specs.Senses.{senseIs};
-ghost use Rattle.encoding.specs.Places.{sideAt, solutionOf};
+ghost use Rattle.grammar.specs.Certificate.{sense_cell};
+ghost use Rattle.senses.specs.Senses.{sense_is};
+ghost use Rattle.encoding.specs.Places.{side_at, solution_of};
 ghost use Rattle.encoding.specs.Encodes.{EncodesRow};
 ghost use Rattle.encoding.specs.Rows.{RowIs};
 
@@ -24,7 +24,7 @@ pub struct ListedRow {
 
 // The sense that a cell has.
 fn sense_of(cell: usize) -> Sense
-    ensures { (s : TreeSense) → cell ≡ senseCell s → senseIs result ≡ s }
+    ensures { (s : TreeSense) → cell ≡ sense_cell s → sense_is result ≡ s }
 {
     if cell == words::E {
         return Sense::Equal;
@@ -38,7 +38,7 @@ fn sense_of(cell: usize) -> Sense
 // Where the terms of a row stand: its own, or the objective's. Its sense stands in this cell, its right side has this number.
 fn side_at(index: &[u16], objective: Pairs, cell: usize, number: usize) -> Pairs
     requires { (cell ≤ largest) × (number ≤ largest) }
-    ensures { result ≡ sideAt index.now objective cell number }
+    ensures { result ≡ side_at index.now objective cell number }
 {
     let count = tables::cell_at(index, cell + 1);
     if count == words::OBJ {
@@ -53,7 +53,7 @@ fn side_at(index: &[u16], objective: Pairs, cell: usize, number: usize) -> Pairs
 
 // The sense of row r.
 pub fn sense_at(index: &[u16], rows: &[u16], r: usize) -> Sense
-    ensures { (tree : Tree) (values : List ℤ) (objective : PairsOf) (row : Row) → EncodesRow tree index.now values rows.now objective r row → senseIs result ≡ row.sense }
+    ensures { (tree : Tree) (values : List ℤ) (objective : PairsOf) (row : Row) → EncodesRow tree index.now values rows.now objective r row → sense_is result ≡ row.sense }
 {
     let e = tables::entry_at(rows, r);
     sense_of(tables::cell_at(index, e.cell))
@@ -77,7 +77,7 @@ pub fn row_at(index: &[u16], values: &[i32], rows: &[u16], objective: Pairs, r: 
 
 // Where the terms of solution j stand.
 pub fn solution_terms(index: &[u16], rows: &[u16], j: usize) -> Pairs
-    ensures { result ≡ solutionOf index.now rows.now j }
+    ensures { result ≡ solution_of index.now rows.now j }
 {
     let e = tables::solution_at(rows, j);
     let count = tables::cell_at(index, e.cell);

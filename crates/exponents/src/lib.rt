@@ -1,7 +1,7 @@
 // The exponent of a value: `E` or `e`, an optional sign and digits; and the power of ten that it comes to.
 ghost use Rattle.std.specs.Prelude.{◌≡◌, ℕ, ◌+◌, ◌*◌, ◌≤◌, pos, ◌+ℤ◌, ◌-ℤ◌, drop};
 ghost use Rattle.integers.specs.Signs.{with_sign};
-ghost use Rattle.exponents.specs.Exponents.{isLetter, Saturated, NumberRead, ExponentRead, powerSays, powerWithin, opposed};
+ghost use Rattle.exponents.specs.Exponents.{is_letter, Saturated, NumberRead, ExponentRead, power_says, power_within, opposed};
 // The greatest power of ten, up or down.
 const MOST_POWER: usize = 18;
 
@@ -13,7 +13,7 @@ const GREATEST: usize = 18446744073709551615;
 
 // `E` or `e`.
 pub fn is_letter(b: u8) -> bool
-    ensures { result ≡ isLetter b }
+    ensures { result ≡ is_letter b }
 {
     if b == b'E' {
         return true;
@@ -87,7 +87,7 @@ pub enum Power {
 }
 
 fn opposite(x: Power) -> Power
-    ensures { powerSays result ≡ opposed (powerSays x) }
+    ensures { power_says result ≡ opposed (power_says x) }
 {
     match x {
         Power::Up(k) => Power::Down(k),
@@ -98,7 +98,7 @@ fn opposite(x: Power) -> Power
 
 // up - down.
 fn difference(up: usize, down: usize) -> Power
-    ensures { powerSays result ≡ powerWithin (pos up -ℤ pos down) }
+    ensures { power_says result ≡ power_within (pos up -ℤ pos down) }
 {
     if down <= up {
         let k = up - down;
@@ -116,7 +116,7 @@ fn difference(up: usize, down: usize) -> Power
 
 // An exponent's number, plus `more`, less `less`.
 fn balance(number: usize, more: usize, less: usize) -> Power
-    ensures { powerSays result ≡ powerWithin (pos (number + more) -ℤ pos less) }
+    ensures { power_says result ≡ power_within (pos (number + more) -ℤ pos less) }
 {
     if more < less {
         return difference(number, less - more);
@@ -133,7 +133,7 @@ fn balance(number: usize, more: usize, less: usize) -> Power
 
 // The power of ten: the exponent, less the digits after the point, plus the trailing zeros that were dropped.
 pub fn power_of(minus: bool, number: usize, places: usize, zeros: usize) -> Power
-    ensures { powerSays result ≡ powerWithin (with_sign minus number -ℤ pos places +ℤ pos zeros) }
+    ensures { power_says result ≡ power_within (with_sign minus number -ℤ pos places +ℤ pos zeros) }
 {
     if minus {
         opposite(balance(number, places, zeros))

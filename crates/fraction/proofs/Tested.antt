@@ -10,60 +10,60 @@ use lib.Dec.{leb, eqb}
 use lib.IntN.{ℤ, pos, negsuc, nat_abs}
 use lib.Signed.{lt_z, ◌<ℤ◌}
 use Rattle.integers.specs.Gcd.{gcd}
-use Rattle.integers.specs.Coprime.{coprime-one}
-use Rattle.integers.proofs.Casts.{positive-mag}
+use Rattle.integers.specs.Coprime.{coprime_one}
+use Rattle.integers.proofs.Casts.{positive_mag}
 use Rattle.arithmetic.specs.Outcome.{Outcome, refuses}
-use Rattle.arithmetic.specs.Fraction.{limit, isFraction, onFractions}
+use Rattle.arithmetic.specs.Fraction.{limit, is_fraction, on_fractions}
 use Rattle.arithmetic.specs.Meaning.{truth, and-true}
-use Rattle.arithmetic.specs.Parts.{isShaped}
+use Rattle.arithmetic.specs.Parts.{is_shaped}
 use Rattle.arithmetic.specs.declared.Fraction.{Fraction}
-use Rattle.arithmetic.proofs.Ways.{Told, shaped-is, not-fractions}
-use Rattle.fraction.specs.Results.{inLowestTerms}
+use Rattle.arithmetic.proofs.Ways.{Told, shaped_is, not_fractions}
+use Rattle.fraction.specs.Results.{in_lowest_terms}
 
 -- ---- one
 
-by_shape : (f : Fraction) → Told f → isFraction f ≡ isShaped f && inLowestTerms f
-unfolding isFraction
+by_shape : (f : Fraction) → Told f → is_fraction f ≡ is_shaped f && in_lowest_terms f
+unfolding is_fraction
 by_shape f t = go (lt_z (pos 0) f.den) refl
   where
     small : lt_z (pos 0) f.den ≡ true → nat_abs f.den ≤ limit
-    small e = omega (arith, positive-mag f.den e, t.1)
+    small e = omega (arith, positive_mag f.den e, t.1)
 
     go : (a : Bool) → lt_z (pos 0) f.den ≡ a
-        → a && (leb (nat_abs f.num) limit && (leb (nat_abs f.den) limit && inLowestTerms f)) ≡ (a && leb (nat_abs f.num) limit) && inLowestTerms f
+        → a && (leb (nat_abs f.num) limit && (leb (nat_abs f.den) limit && in_lowest_terms f)) ≡ (a && leb (nat_abs f.num) limit) && in_lowest_terms f
     go true e = rw (le-leb (nat_abs f.den) limit (small e))
     go false e = refl
 
-pub shaped-fraction : (f : Fraction) → Told f → isShaped f ≡ true → isFraction f ≡ inLowestTerms f
-shaped-fraction f t e = by_shape f t ∙ (rw e)
+pub shaped_fraction : (f : Fraction) → Told f → is_shaped f ≡ true → is_fraction f ≡ in_lowest_terms f
+shaped_fraction f t e = by_shape f t ∙ (rw e)
 
-pub unshaped : (f : Fraction) → Told f → isShaped f ≡ false → isFraction f ≡ false
+pub unshaped : (f : Fraction) → Told f → is_shaped f ≡ false → is_fraction f ≡ false
 unshaped f t e = by_shape f t ∙ (rw e)
 
 positive : (z : ℤ) → pos 0 <ℤ z → 0 < nat_abs z
 positive (pos n) h = ltb-true 0 n (truth _ h.lt)
 positive (negsuc n) h = absurd h.lt
 
-pub shaped-positive : (f : Fraction) → isShaped f ≡ true → 0 < nat_abs f.den
-shaped-positive f e = positive f.den (shaped-is f e).0
+pub shaped_positive : (f : Fraction) → is_shaped f ≡ true → 0 < nat_abs f.den
+shaped_positive f e = positive f.den (shaped_is f e).0
 
 -- a whole number is in lowest terms
 pub whole-lowest-terms : (p d : ℕ) → d ≡ 1 → eqb (gcd p d) 1 ≡ true
-whole-lowest-terms p d e = eq-eqb (gcd p d) 1 (ap (gcd p) e ∙ coprime-one p)
+whole-lowest-terms p d e = eq-eqb (gcd p d) 1 (ap (gcd p) e ∙ coprime_one p)
 
 -- the greatest common divisor of its parts was found
 module _ (f : Fraction) (x y g : ℕ) (i : x ≡ nat_abs f.num) (j : y ≡ nat_abs f.den) (e : g ≡ gcd x y) where
   found : g ≡ gcd (nat_abs f.num) (nat_abs f.den)
   found = e ∙ ap₂ gcd i j
 
-  pub found-test : eqb g 1 ≡ inLowestTerms f
-  found-test = ap (λ (n : ℕ). eqb n 1) found
+  pub found_test : eqb g 1 ≡ in_lowest_terms f
+  found_test = ap (λ (n : ℕ). eqb n 1) found
 
-  pub found-one : g ≡ 1 → inLowestTerms f ≡ true
-  found-one h = sym found-test ∙ eq-eqb g 1 h
+  pub found_one : g ≡ 1 → in_lowest_terms f ≡ true
+  found_one h = sym found_test ∙ eq-eqb g 1 h
 
-  pub found-more : (g ≡ 1 → ⊥) → inLowestTerms f ≡ false
-  found-more h = sym found-test ∙ ne_eqb g 1 h
+  pub found_more : (g ≡ 1 → ⊥) → in_lowest_terms f ≡ false
+  found_more h = sym found_test ∙ ne_eqb g 1 h
 
 -- ---- two
 
@@ -71,44 +71,44 @@ and-false : (a : Bool) → a && false ≡ false
 and-false true = refl
 and-false false = refl
 
-and-true-right : (a : Bool) → a && true ≡ a
-and-true-right true = refl
-and-true-right false = refl
+and_true_right : (a : Bool) → a && true ≡ a
+and_true_right true = refl
+and_true_right false = refl
 
-pub true-first : (a b : Bool) → a ≡ true → a && b ≡ b
-true-first a b e = rw e
+pub true_first : (a b : Bool) → a ≡ true → a && b ≡ b
+true_first a b e = rw e
 
-pub true-second : (a b : Bool) → b ≡ true → a && b ≡ a
-true-second a b e = rw e (and-true-right a)
+pub true_second : (a b : Bool) → b ≡ true → a && b ≡ a
+true_second a b e = rw e (and_true_right a)
 
-pub first-false : (a b : Bool) → a ≡ false → a && b ≡ false
-first-false a b e = rw e
+pub first_false : (a b : Bool) → a ≡ false → a && b ≡ false
+first_false a b e = rw e
 
-pub second-false : (a b : Bool) → b ≡ false → a && b ≡ false
-second-false a b e = rw e (and-false a)
+pub second_false : (a b : Bool) → b ≡ false → a && b ≡ false
+second_false a b e = rw e (and-false a)
 
-and-exchange : (x u y v : Bool) → (x && u) && (y && v) ≡ (x && y) && (u && v)
-and-exchange true u true v = refl
-and-exchange true true false v = refl
-and-exchange true false false v = refl
-and-exchange false u y v = refl
+and_exchange : (x u y v : Bool) → (x && u) && (y && v) ≡ (x && y) && (u && v)
+and_exchange true u true v = refl
+and_exchange true true false v = refl
+and_exchange true false false v = refl
+and_exchange false u y v = refl
 
 module _ (a b : Fraction) (s : Told a) (t : Told b) where
-  both-by-shape : isFraction a && isFraction b ≡ (isShaped a && isShaped b) && (inLowestTerms a && inLowestTerms b)
-  both-by-shape = ap₂ ◌&&◌ (by_shape a s) (by_shape b t) ∙ and-exchange (isShaped a) (inLowestTerms a) (isShaped b) (inLowestTerms b)
+  both_by_shape : is_fraction a && is_fraction b ≡ (is_shaped a && is_shaped b) && (in_lowest_terms a && in_lowest_terms b)
+  both_by_shape = ap₂ ◌&&◌ (by_shape a s) (by_shape b t) ∙ and_exchange (is_shaped a) (in_lowest_terms a) (is_shaped b) (in_lowest_terms b)
 
-  pub both-shaped : isShaped a && isShaped b ≡ true → isFraction a && isFraction b ≡ inLowestTerms a && inLowestTerms b
-  both-shaped e = both-by-shape ∙ ap (λ (x : Bool). x && (inLowestTerms a && inLowestTerms b)) e
+  pub both_shaped : is_shaped a && is_shaped b ≡ true → is_fraction a && is_fraction b ≡ in_lowest_terms a && in_lowest_terms b
+  both_shaped e = both_by_shape ∙ ap (λ (x : Bool). x && (in_lowest_terms a && in_lowest_terms b)) e
 
-  pub not-both-shaped : isShaped a && isShaped b ≡ false → isFraction a && isFraction b ≡ false
-  not-both-shaped e = both-by-shape ∙ ap (λ (x : Bool). x && (inLowestTerms a && inLowestTerms b)) e
+  pub not_both_shaped : is_shaped a && is_shaped b ≡ false → is_fraction a && is_fraction b ≡ false
+  not_both_shaped e = both_by_shape ∙ ap (λ (x : Bool). x && (in_lowest_terms a && in_lowest_terms b)) e
 
   -- an operation on both
-  pub of-shaped : {A : Type 0} (o : Outcome A) → isShaped a && isShaped b ≡ true → onFractions (inLowestTerms a && inLowestTerms b) o ≡ onFractions (isFraction a && isFraction b) o
-  of-shaped o e = ap (λ (x : Bool). onFractions x o) (sym (both-shaped e))
+  pub of_shaped : {A : Type 0} (o : Outcome A) → is_shaped a && is_shaped b ≡ true → on_fractions (in_lowest_terms a && in_lowest_terms b) o ≡ on_fractions (is_fraction a && is_fraction b) o
+  of_shaped o e = ap (λ (x : Bool). on_fractions x o) (sym (both_shaped e))
 
-  pub of-unshaped : {A : Type 0} (o : Outcome A) → isShaped a && isShaped b ≡ false → onFractions (isFraction a && isFraction b) o ≡ refuses 4
-  of-unshaped o e = not-fractions o _ (not-both-shaped e)
+  pub of_unshaped : {A : Type 0} (o : Outcome A) → is_shaped a && is_shaped b ≡ false → on_fractions (is_fraction a && is_fraction b) o ≡ refuses 4
+  of_unshaped o e = not_fractions o _ (not_both_shaped e)
 
-  pub denominators-positive : isShaped a && isShaped b ≡ true → 0 < nat_abs a.den * nat_abs b.den
-  denominators-positive e = let p = and-true (isShaped a) (isShaped b) e in mul-pos (shaped-positive a p.0) (shaped-positive b p.1)
+  pub denominators_positive : is_shaped a && is_shaped b ≡ true → 0 < nat_abs a.den * nat_abs b.den
+  denominators_positive e = let p = and-true (is_shaped a) (is_shaped b) e in mul-pos (shaped_positive a p.0) (shaped_positive b p.1)

@@ -6,7 +6,7 @@ use Rattle.std.specs.Prelude.{◌≡◌, Bool, ℕ, ◌<◌, ℤ}
 use Rattle.integers.specs.Signs.{with_sign}
 use Rattle.arithmetic.specs.Outcome.{Outcome}
 use Rattle.arithmetic.specs.Quotient.{◌+Q◌, ◌*Q◌}
-use Rattle.arithmetic.specs.Fraction.{IsFraction, exact, productOf, sum_of, addProductOf, reducedOf, Order, compareOf, floorOf, ceilingOf}
+use Rattle.arithmetic.specs.Fraction.{IsFraction, exact, product_of, sum_of, add_product_of, reduced_of, Order, compare_of, floor_of, ceiling_of}
 use Rattle.arithmetic.specs.Meaning.{Means, MeansInTwo, Answers, Says, IsFloor, IsCeiling}
 use Rattle.arithmetic.specs.Parts.{over}
 use Rattle.arithmetic.specs.declared.Fraction.{Fraction}
@@ -19,28 +19,28 @@ pub record Meant {A : Type 0} (definition : Outcome A) (Meaning : Outcome A → 
 -- 12": the fraction that equals the exact result; "4 if an operand is not a fraction in lowest terms within the limit, else 12
 -- for a product or sum too wide"
 abbrev pub ProductMeant : Fraction → Fraction → Outcome Fraction → Type 0
-ProductMeant a b = Meant (productOf a b) (Means (IsFraction a × IsFraction b) (exact a *Q exact b))
+ProductMeant a b = Meant (product_of a b) (Means (IsFraction a × IsFraction b) (exact a *Q exact b))
 
 abbrev pub SumMeant : Fraction → Fraction → Outcome Fraction → Type 0
 SumMeant a b = Meant (sum_of a b) (Means (IsFraction a × IsFraction b) (exact a +Q exact b))
 
 -- the same of a quotient of whole numbers, whose denominator must not be 0
 abbrev pub ReducedMeant : Bool → ℕ → ℕ → Outcome Fraction → Type 0
-ReducedMeant negative n d = Meant (reducedOf negative n d) (Means (0 < d) (over (with_sign negative n) d))
+ReducedMeant negative n d = Meant (reduced_of negative n d) (Means (0 < d) (over (with_sign negative n) d))
 
 -- "product, then sum": the same of three operands, 12 where the product or the sum is too wide
 abbrev pub AddProductMeant : Fraction → Fraction → Fraction → Outcome Fraction → Type 0
 AddProductMeant sum a b =
-    Meant (addProductOf sum a b) (MeansInTwo (IsFraction sum × IsFraction a × IsFraction b) (exact a *Q exact b) (exact sum +Q exact a *Q exact b))
+    Meant (add_product_of sum a b) (MeansInTwo (IsFraction sum × IsFraction a × IsFraction b) (exact a *Q exact b) (exact sum +Q exact a *Q exact b))
 
 -- "Comparisons are exact, never 12": the order of the rational numbers; 4 as above
 abbrev pub ComparisonMeant : Fraction → Fraction → Outcome Order → Type 0
-ComparisonMeant a b = Meant (compareOf a b) (Answers (IsFraction a × IsFraction b) (Says (exact a) (exact b)))
+ComparisonMeant a b = Meant (compare_of a b) (Answers (IsFraction a × IsFraction b) (Says (exact a) (exact b)))
 
 -- "floor(-1/2) = -1", "ceiling(-1/2) = 0": the greatest whole number that is at most the value, the least that is at least it; 4
 -- as above
 abbrev pub FloorMeant : Fraction → Outcome ℤ → Type 0
-FloorMeant a = Meant (floorOf a) (Answers (IsFraction a) (IsFloor (exact a)))
+FloorMeant a = Meant (floor_of a) (Answers (IsFraction a) (IsFloor (exact a)))
 
 abbrev pub CeilingMeant : Fraction → Outcome ℤ → Type 0
-CeilingMeant a = Meant (ceilingOf a) (Answers (IsFraction a) (IsCeiling (exact a)))
+CeilingMeant a = Meant (ceiling_of a) (Answers (IsFraction a) (IsCeiling (exact a)))

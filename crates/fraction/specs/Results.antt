@@ -3,13 +3,13 @@
 -- Assumes nothing.
 use Rattle.std.specs.Prelude.{◌≡◌, Bool, ℕ, ◌*◌, ◌<◌, nat_abs}
 use Rattle.std.specs.Int.{◌∣◌}
-use Rattle.arithmetic.specs.Parts.{lowestTerms}
+use Rattle.arithmetic.specs.Parts.{lowest_terms}
 use Rattle.arithmetic.specs.declared.Fraction.{Fraction}
 use Rattle.arithmetic.specs.declared.Ratio.{Ratio}
 
 -- numerator and denominator have no common divisor but 1
-abbrev pub inLowestTerms : Fraction → Bool
-inLowestTerms f = lowestTerms f.num (nat_abs f.den)
+abbrev pub in_lowest_terms : Fraction → Bool
+in_lowest_terms f = lowest_terms f.num (nat_abs f.den)
 
 -- what divides both parts of f divides n
 abbrev pub Shared : Fraction → ℕ → Type 0
@@ -17,7 +17,7 @@ Shared f n = (k : ℕ) → k ∣ nat_abs f.num → k ∣ nat_abs f.den → k ∣
 
 -- q is over the product of the denominators, and what divides both parts of an operand divides its numerator
 pub record ResultOf (a b : Fraction) (q : Ratio) : Type 0 where
-  pub bottom-is : q.bottom ≡ nat_abs a.den * nat_abs b.den
+  pub bottom_is : q.bottom ≡ nat_abs a.den * nat_abs b.den
   pub positive : 0 < q.bottom
   pub first : Shared a q.top
   pub second : Shared b q.top

@@ -3,12 +3,12 @@
 // brought to such a fraction. No public function asks anything of its caller: operands that are no fractions are refused.
 ghost use Rattle.std.specs.Prelude.{◌≡◌, ◌&&◌, ◌<◌, eqb, nat_abs};
 ghost use Rattle.std.specs.Int.{◌∣◌};
-ghost use Rattle.integers.specs.Gcd.{gcd as gcdOf};
+ghost use Rattle.integers.specs.Gcd.{gcd as gcd_of};
 ghost use Rattle.arithmetic.specs.Quotient.{lowest};
-ghost use Rattle.arithmetic.specs.Fraction.{isFraction, ratioOf, onFractions, within as withinOf, arithmeticSays, comparisonSays, roundingSays};
-ghost use Rattle.arithmetic.specs.Parts.{isShaped};
+ghost use Rattle.arithmetic.specs.Fraction.{is_fraction, ratio_of, on_fractions, within as within_of, arithmetic_says, comparison_says, rounding_says};
+ghost use Rattle.arithmetic.specs.Parts.{is_shaped};
 ghost use Rattle.fraction.specs.Promise.{ProductMeant, SumMeant, ReducedMeant, AddProductMeant, ComparisonMeant, FloorMeant, CeilingMeant};
-ghost use Rattle.fraction.specs.Results.{inLowestTerms, ResultOf};
+ghost use Rattle.fraction.specs.Results.{in_lowest_terms, ResultOf};
 
 use arithmetic::Ratio;
 pub use arithmetic::{Arithmetic, Comparison, Fraction, Rounding};
@@ -31,7 +31,7 @@ fn parts(f: Fraction) -> Pair
 
 // Whether a pair is in lowest terms. A whole number needs no greatest common divisor.
 fn is_lowest(f: Fraction) -> bool
-    ensures { result ≡ inLowestTerms f }
+    ensures { result ≡ in_lowest_terms f }
 {
     let p = parts(f);
     if p.y == 1 {
@@ -43,7 +43,7 @@ fn is_lowest(f: Fraction) -> bool
 
 // Whether a pair is a fraction in lowest terms within the limit.
 fn is_fraction(f: Fraction) -> bool
-    ensures { result ≡ isFraction f }
+    ensures { result ≡ is_fraction f }
 {
     if arithmetic::is_shaped(f) {
         is_lowest(f)
@@ -54,7 +54,7 @@ fn is_fraction(f: Fraction) -> bool
 
 // Whether two pairs are fractions if they are in lowest terms.
 fn both_shaped(a: Fraction, b: Fraction) -> bool
-    ensures { result ≡ isShaped a && isShaped b }
+    ensures { result ≡ is_shaped a && is_shaped b }
 {
     if arithmetic::is_shaped(a) {
         arithmetic::is_shaped(b)
@@ -65,7 +65,7 @@ fn both_shaped(a: Fraction, b: Fraction) -> bool
 
 // Whether two pairs are in lowest terms. Where neither is whole, one loop tells it of both.
 fn both_lowest(a: Fraction, b: Fraction) -> bool
-    ensures { result ≡ inLowestTerms a && inLowestTerms b }
+    ensures { result ≡ in_lowest_terms a && in_lowest_terms b }
 {
     let p = parts(a);
     let q = parts(b);
@@ -81,7 +81,7 @@ fn both_lowest(a: Fraction, b: Fraction) -> bool
 
 // Whether both are fractions in lowest terms within the limit.
 fn both(a: Fraction, b: Fraction) -> bool
-    ensures { result ≡ isFraction a && isFraction b }
+    ensures { result ≡ is_fraction a && is_fraction b }
 {
     if both_shaped(a, b) {
         both_lowest(a, b)
@@ -92,7 +92,7 @@ fn both(a: Fraction, b: Fraction) -> bool
 
 // Whether three pairs are fractions.
 fn all_three(a: Fraction, b: Fraction, c: Fraction) -> bool
-    ensures { result ≡ isFraction a && (isFraction b && isFraction c) }
+    ensures { result ≡ is_fraction a && (is_fraction b && is_fraction c) }
 {
     if is_fraction(a) { both(b, c) } else { false }
 }
@@ -102,7 +102,7 @@ fn all_three(a: Fraction, b: Fraction, c: Fraction) -> bool
 // The result q of a and b brought to lowest terms, if a and b are in lowest terms: three greatest common divisors in one loop.
 fn lowest_together(a: Fraction, b: Fraction, q: Ratio) -> Arithmetic
     requires { 0 < q.bottom }
-    ensures { arithmeticSays result ≡ onFractions (inLowestTerms a && inLowestTerms b) (withinOf (lowest (ratioOf q))) }
+    ensures { arithmetic_says result ≡ on_fractions (in_lowest_terms a && in_lowest_terms b) (within_of (lowest (ratio_of q))) }
 {
     let n = q.top;
     let d = q.bottom;
@@ -119,8 +119,8 @@ fn lowest_together(a: Fraction, b: Fraction, q: Ratio) -> Arithmetic
 
 // Whether a pair is in lowest terms, where the common divisors of its parts divide g.
 fn is_lowest_by(g: u64, f: Fraction) -> bool
-    requires { (0 < g) × (gcdOf (nat_abs f.num) (nat_abs f.den) ∣ g) }
-    ensures { result ≡ inLowestTerms f }
+    requires { (0 < g) × (gcd_of (nat_abs f.num) (nat_abs f.den) ∣ g) }
+    ensures { result ≡ in_lowest_terms f }
 {
     let p = parts(f);
     let h = divisors::gcd(p.x % g, g);
@@ -133,8 +133,8 @@ fn is_lowest_by(g: u64, f: Fraction) -> bool
 // The result q of a and b brought to lowest terms by g, the greatest common divisor of its parts, if a and b are in lowest
 // terms.
 fn lowest_by(a: Fraction, b: Fraction, q: Ratio, g: u64) -> Arithmetic
-    requires { ResultOf a b q × (g ≡ gcdOf q.top q.bottom) }
-    ensures { arithmeticSays result ≡ onFractions (inLowestTerms a && inLowestTerms b) (withinOf (lowest (ratioOf q))) }
+    requires { ResultOf a b q × (g ≡ gcd_of q.top q.bottom) }
+    ensures { arithmetic_says result ≡ on_fractions (in_lowest_terms a && in_lowest_terms b) (within_of (lowest (ratio_of q))) }
 {
     if is_lowest_by(g, a) {
         if is_lowest_by(g, b) {
@@ -147,7 +147,7 @@ fn lowest_by(a: Fraction, b: Fraction, q: Ratio, g: u64) -> Arithmetic
 // The greatest common divisor of the parts of a result.
 fn divisor_of(q: Ratio) -> u64
     requires { 0 < q.bottom }
-    ensures { result ≡ gcdOf q.top q.bottom }
+    ensures { result ≡ gcd_of q.top q.bottom }
 {
     let d = q.bottom;
     if d == 1 {
@@ -160,7 +160,7 @@ fn divisor_of(q: Ratio) -> u64
 // divides both parts of the result: a result in lowest terms shows that the operands are.
 fn lowest_result(a: Fraction, b: Fraction, q: Ratio) -> Arithmetic
     requires { ResultOf a b q }
-    ensures { arithmeticSays result ≡ onFractions (inLowestTerms a && inLowestTerms b) (withinOf (lowest (ratioOf q))) }
+    ensures { arithmetic_says result ≡ on_fractions (in_lowest_terms a && in_lowest_terms b) (within_of (lowest (ratio_of q))) }
 {
     if q.bottom > WIDE {
         return lowest_together(a, b, q);
@@ -173,7 +173,7 @@ fn lowest_result(a: Fraction, b: Fraction, q: Ratio) -> Arithmetic
 }
 
 pub fn product(a: Fraction, b: Fraction) -> Arithmetic
-    ensures { ProductMeant a b (arithmeticSays result) }
+    ensures { ProductMeant a b (arithmetic_says result) }
 {
     if both_shaped(a, b) {
         lowest_result(a, b, arithmetic::multiplied(a, b))
@@ -183,7 +183,7 @@ pub fn product(a: Fraction, b: Fraction) -> Arithmetic
 }
 
 pub fn sum(a: Fraction, b: Fraction) -> Arithmetic
-    ensures { SumMeant a b (arithmeticSays result) }
+    ensures { SumMeant a b (arithmetic_says result) }
 {
     if both_shaped(a, b) {
         lowest_result(a, b, arithmetic::added(a, b))
@@ -194,14 +194,14 @@ pub fn sum(a: Fraction, b: Fraction) -> Arithmetic
 
 // n / d, negated if asked, brought to lowest terms. No fraction has the denominator 0.
 pub fn reduced(negative: bool, n: u64, d: u64) -> Arithmetic
-    ensures { ReducedMeant negative n d (arithmeticSays result) }
+    ensures { ReducedMeant negative n d (arithmetic_says result) }
 {
     arithmetic::reduced(negative, n, d)
 }
 
 // A sum and a product more: a * b, then sum + a * b, each brought to lowest terms within the limit.
 pub fn add_product(sum: Fraction, a: Fraction, b: Fraction) -> Arithmetic
-    ensures { AddProductMeant sum a b (arithmeticSays result) }
+    ensures { AddProductMeant sum a b (arithmetic_says result) }
 {
     if all_three(sum, a, b) {
         arithmetic::add_product(sum, a, b)
@@ -213,7 +213,7 @@ pub fn add_product(sum: Fraction, a: Fraction, b: Fraction) -> Arithmetic
 // ---- comparison and rounding
 
 pub fn compare(a: Fraction, b: Fraction) -> Comparison
-    ensures { ComparisonMeant a b (comparisonSays result) }
+    ensures { ComparisonMeant a b (comparison_says result) }
 {
     if both(a, b) {
         arithmetic::compare(a, b)
@@ -223,7 +223,7 @@ pub fn compare(a: Fraction, b: Fraction) -> Comparison
 }
 
 pub fn floor(a: Fraction) -> Rounding
-    ensures { FloorMeant a (roundingSays result) }
+    ensures { FloorMeant a (rounding_says result) }
 {
     if is_fraction(a) {
         arithmetic::floor(a)
@@ -233,7 +233,7 @@ pub fn floor(a: Fraction) -> Rounding
 }
 
 pub fn ceiling(a: Fraction) -> Rounding
-    ensures { CeilingMeant a (roundingSays result) }
+    ensures { CeilingMeant a (rounding_says result) }
 {
     if is_fraction(a) {
         arithmetic::ceiling(a)

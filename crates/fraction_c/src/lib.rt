@@ -1,13 +1,13 @@
 // The arithmetic of `fraction` for C: operands by value, the result through pointers, and as what is returned 0 or 01's
 // number of the refusal, on which nothing is stored. include/fraction.h declares the functions.
-ghost use Rattle.arithmetic.specs.Fraction.{productOf, sum_of, compareOf, floorOf, ceilingOf, arithmeticSays, comparisonSays, roundingSays};
+ghost use Rattle.arithmetic.specs.Fraction.{product_of, sum_of, compare_of, floor_of, ceiling_of, arithmetic_says, comparison_says, rounding_says};
 ghost use Rattle.fraction_c.specs.Stored.{Stored, pair, sign_of};
 
 use fraction::{Arithmetic, Comparison, Fraction, Rounding};
 
 // The answer of a product or a sum.
 fn store(answer: Arithmetic, num: &mut i32, den: &mut i32) -> u8
-    ensures { Stored (arithmeticSays answer) result
+    ensures { Stored (arithmetic_says answer) result
         (pair num.old den.old) (pair num.new den.new) }
 {
     match answer {
@@ -25,7 +25,7 @@ fn store(answer: Arithmetic, num: &mut i32, den: &mut i32) -> u8
 
 // The answer of a comparison.
 fn store_order(answer: Comparison, order: &mut i32) -> u8
-    ensures { Stored (sign_of (comparisonSays answer)) result order.old order.new }
+    ensures { Stored (sign_of (comparison_says answer)) result order.old order.new }
 {
     match answer {
         Comparison::Less => {
@@ -46,7 +46,7 @@ fn store_order(answer: Comparison, order: &mut i32) -> u8
 
 // The answer of floor or ceiling.
 fn store_whole(answer: Rounding, whole: &mut i32) -> u8
-    ensures { Stored (roundingSays answer) result whole.old whole.new }
+    ensures { Stored (rounding_says answer) result whole.old whole.new }
 {
     match answer {
         Rounding::Whole(n) => {
@@ -66,7 +66,7 @@ pub extern "C" fn fraction_product(
     num: &mut i32,
     den: &mut i32,
 ) -> u8
-    ensures { Stored (productOf (pair a_num a_den) (pair b_num b_den)) result
+    ensures { Stored (product_of (pair a_num a_den) (pair b_num b_den)) result
         (pair num.old den.old) (pair num.new den.new) }
 {
     let a = Fraction {
@@ -111,7 +111,7 @@ pub extern "C" fn fraction_compare(
     b_den: i32,
     order: &mut i32,
 ) -> u8
-    ensures { Stored (sign_of (compareOf (pair a_num a_den) (pair b_num b_den))) result
+    ensures { Stored (sign_of (compare_of (pair a_num a_den) (pair b_num b_den))) result
         order.old order.new }
 {
     let a = Fraction {
@@ -127,14 +127,14 @@ pub extern "C" fn fraction_compare(
 
 #[unsafe(no_mangle)]
 pub extern "C" fn fraction_floor(num: i32, den: i32, whole: &mut i32) -> u8
-    ensures { Stored (floorOf (pair num den)) result whole.old whole.new }
+    ensures { Stored (floor_of (pair num den)) result whole.old whole.new }
 {
     store_whole(fraction::floor(Fraction { num, den }), whole)
 }
 
 #[unsafe(no_mangle)]
 pub extern "C" fn fraction_ceiling(num: i32, den: i32, whole: &mut i32) -> u8
-    ensures { Stored (ceilingOf (pair num den)) result whole.old whole.new }
+    ensures { Stored (ceiling_of (pair num den)) result whole.old whole.new }
 {
     store_whole(fraction::ceiling(Fraction { num, den }), whole)
 }

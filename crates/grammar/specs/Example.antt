@@ -3,21 +3,21 @@
 use Rattle.std.specs.Prelude.{◌≡◌, refl, [], ◌∷◌, ℕ, pos, replicate}
 use Prim.Native.String.{String}
 use Rattle.std.proofs.Math.Seq.{slice}
-use Rattle.text.specs.Bytes.{Bytes, isSeparator, isPrintable, isDigit}
+use Rattle.text.specs.Bytes.{Bytes, is_separator, is_printable, is_digit}
 use Rattle.text.specs.Ascii.{ascii}
-use Rattle.text.specs.Comments.{commentsEnd}
-use Rattle.text.specs.Tokens.{Token, rest, streamAt}
-use Rattle.tables.specs.Limits.{indexCells, valueCells, rowCells}
+use Rattle.text.specs.Comments.{comments_end}
+use Rattle.text.specs.Tokens.{Token, rest, stream_at}
+use Rattle.tables.specs.Limits.{index_cells, value_cells, row_cells}
 use Rattle.arithmetic.specs.Quotient.{lowest}
 use Rattle.arithmetic.specs.declared.Fraction.{Fraction}
 use Rattle.integers.specs.Gcd.{gcd, euclid}
 use Rattle.numerals.specs.Spelling.{quotient_of}
-use Rattle.numerals.specs.Reading.{readValue, outcomeOf, narrowed}
+use Rattle.numerals.specs.Reading.{read_value, outcome_of, narrowed}
 use Rattle.grammar.specs.Tree.{Tree, TermList, maximize, at_most, obj, listed, finite, range, rnd, never}
 use Rattle.grammar.specs.Reading.{read}
 use Rattle.grammar.specs.Layout.{gather, marks}
-use Rattle.grammar.specs.Texts.{SpellsTree, Certificate, SpellsCertificate, taken, read_of, read-sound}
-use Rattle.grammar.specs.Tables.{filled, indexTable, valueTable, byTurns, rowTable}
+use Rattle.grammar.specs.Texts.{SpellsTree, Certificate, SpellsCertificate, taken, read_of, read_sound}
+use Rattle.grammar.specs.Tables.{filled, index_table, value_table, by_turns, row_table}
 
 -- the text
 abbrev pub example : Bytes
@@ -32,20 +32,20 @@ abbrev ◌over◌ : ℕ → ℕ → Fraction
 n over d = record { num = pos n; den = pos d }
 
 -- one term, of variable 0
-abbrev oneTerm : ℕ → TermList
-oneTerm c = record { count = 1; terms = record { variable = 0; coefficient = c over 1 } ∷ [] }
+abbrev one_term : ℕ → TermList
+one_term c = record { count = 1; terms = record { variable = 0; coefficient = c over 1 } ∷ [] }
 
 -- the tree that it spells
-pub exampleTree : Tree
-exampleTree =
+pub example_tree : Tree
+example_tree =
     record {
       variables = record { count = 1; names = at 14 "x" ∷ [] };
       integers = record { count = 1; indices = 0 ∷ [] };
-      objective = record { direction = maximize; terms = oneTerm 1 };
+      objective = record { direction = maximize; terms = one_term 1 };
       constraints =
-          record { count = 1; bounds = 0; rows = record { name = at 46 "R1"; sense = at_most; right = 3 over 1; side = listed (oneTerm 2) } ∷ [] };
+          record { count = 1; bounds = 0; rows = record { name = at 46 "R1"; sense = at_most; right = 3 over 1; side = listed (one_term 2) } ∷ [] };
       relation = record { place = 59; claim = range (finite (1 over 1)) (finite (1 over 1)) };
-      solutions = record { count = 1; solutions = record { name = at 79 "a"; values = oneTerm 1 } ∷ [] };
+      solutions = record { count = 1; solutions = record { name = at 79 "a"; values = one_term 1 } ∷ [] };
       derivations =
           record {
             place = 87;
@@ -59,38 +59,38 @@ exampleTree =
           };
     }
 
-example-read : read_of example ≡ taken exampleTree
-unfolding exampleTree read_of commentsEnd rest streamAt read isSeparator isPrintable isDigit readValue outcomeOf narrowed quotient_of lowest gcd euclid
+example-read : read_of example ≡ taken example_tree
+unfolding example_tree read_of comments_end rest stream_at read is_separator is_printable is_digit read_value outcome_of narrowed quotient_of lowest gcd euclid
 example-read = refl
 
-pub example-spelled : SpellsTree example exampleTree
-example-spelled = read-sound example exampleTree example-read
+pub example_spelled : SpellsTree example example_tree
+example_spelled = read_sound example example_tree example-read
 
 -- "Index cells: .."; the values; the names
-abbrev pub exampleCertificate : Certificate
-exampleCertificate =
+abbrev pub example_certificate : Certificate
+example_certificate =
     record {
       numbers = 1 ∷ 1 ∷ 0 ∷ 1 ∷ 1 ∷ 0 ∷ 1 ∷ 0 ∷ 1 ∷ 1 ∷ 0 ∷ 1 ∷ 1 ∷ 1 ∷ 1 ∷ 1 ∷ 0 ∷ 1 ∷ 1 ∷ 65535 ∷ 2 ∷ 1 ∷ 0 ∷ 65535 ∷ [];
       values = 1 over 1 ∷ 3 over 1 ∷ 2 over 1 ∷ 1 over 1 ∷ 1 over 1 ∷ 1 over 1 ∷ 1 over 1 ∷ 1 over 2 ∷ [];
       names = ascii "x" ∷ ascii "R1" ∷ ascii "a" ∷ ascii "D1" ∷ [];
     }
 
-pub example-certificate : SpellsCertificate example exampleCertificate
-unfolding exampleTree gather
-example-certificate = record { tree = exampleTree; spells = example-spelled; lists = refl }
+pub example-certificate : SpellsCertificate example example_certificate
+unfolding example_tree gather
+example-certificate = record { tree = example_tree; spells = example_spelled; lists = refl }
 
 -- the tables after reading it, of the cells needed: zeros after the cells of the certificate; "Row 0: 46 2 8 1. Row 1:
 -- 93 2 18 6. Row 1,024: 79 1 15 5"
 pub record ExampleTables : Type 0 where
-  pub index : indexTable indexCells exampleTree ≡ filled 0 indexCells exampleCertificate.numbers
-  pub values : valueTable valueCells exampleTree ≡ filled (pos 0) valueCells (byTurns exampleCertificate.values)
-  pub row-0 : slice 0 4 (rowTable rowCells exampleTree) ≡ 46 ∷ 2 ∷ 8 ∷ 1 ∷ []
-  pub row-1 : slice 4 8 (rowTable rowCells exampleTree) ≡ 93 ∷ 2 ∷ 18 ∷ 6 ∷ []
-  pub rows-between : slice 8 4096 (rowTable rowCells exampleTree) ≡ replicate 4088 0
-  pub row-1024 : slice 4096 4100 (rowTable rowCells exampleTree) ≡ 79 ∷ 1 ∷ 15 ∷ 5 ∷ []
-  pub rows-after : slice 4100 4352 (rowTable rowCells exampleTree) ≡ replicate 252 0
+  pub index : index_table index_cells example_tree ≡ filled 0 index_cells example_certificate.numbers
+  pub values : value_table value_cells example_tree ≡ filled (pos 0) value_cells (by_turns example_certificate.values)
+  pub row_0 : slice 0 4 (row_table row_cells example_tree) ≡ 46 ∷ 2 ∷ 8 ∷ 1 ∷ []
+  pub row_1 : slice 4 8 (row_table row_cells example_tree) ≡ 93 ∷ 2 ∷ 18 ∷ 6 ∷ []
+  pub rows_between : slice 8 4096 (row_table row_cells example_tree) ≡ replicate 4088 0
+  pub row_1024 : slice 4096 4100 (row_table row_cells example_tree) ≡ 79 ∷ 1 ∷ 15 ∷ 5 ∷ []
+  pub rows-after : slice 4100 4352 (row_table row_cells example_tree) ≡ replicate 252 0
 
-pub example-tables : ExampleTables
-unfolding exampleTree gather marks indexTable valueTable rowTable
-example-tables =
-    record { index = refl; values = refl; row-0 = refl; row-1 = refl; rows-between = refl; row-1024 = refl; rows-after = refl }
+pub example_tables : ExampleTables
+unfolding example_tree gather marks index_table value_table row_table
+example_tables =
+    record { index = refl; values = refl; row_0 = refl; row_1 = refl; rows_between = refl; row_1024 = refl; rows-after = refl }

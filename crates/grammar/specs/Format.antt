@@ -30,7 +30,7 @@ pub data Symbol : Type 0 → Type 1 where
   -- a name
   name : Symbol Token
   -- a name that the row table keeps in this row, and none of those used
-  rowName : ℕ → List Bytes → Symbol Token
+  row_name : ℕ → List Bytes → Symbol Token
   -- a value, with the index cells that it takes: those of an end of a range have one, others none
   value : List ℕ → Symbol Fraction
   -- this word, which takes the cell given for it, or else the other symbol

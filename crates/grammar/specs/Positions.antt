@@ -8,11 +8,11 @@ use mathlib.Core.List.{List, [], ◌∷◌, ◌++◌, append_assoc, append-nil, 
 use Rattle.std.proofs.Math.ListN.{get_or-append}
 use Rattle.std.proofs.Math.Seq.{slice, split_at}
 use Rattle.text.specs.Bytes.{Bytes}
-use Rattle.text.specs.BytesLaws.{slice-take}
+use Rattle.text.specs.BytesLaws.{slice_take}
 use Rattle.text.specs.Tokens.{Token}
 use Rattle.arithmetic.specs.declared.Fraction.{Fraction}
-use Rattle.grammar.specs.Format.{rowName, Format, symbol, then, items, view}
-use Rattle.grammar.specs.Layout.{Mark, gatherItems, gather, cells, values, marksItems, marks}
+use Rattle.grammar.specs.Format.{row_name, Format, symbol, then, items, view}
+use Rattle.grammar.specs.Layout.{Mark, gather_items, gather, cells, values, marks_items, marks}
 
 -- ---- a part of a list
 
@@ -25,28 +25,28 @@ pub record StandsAt {A : Type 0} (all : List A) (position : ℕ) (xs : List A) :
 
 module _ {A : Type 0} {all : List A} {position : ℕ} {xs : List A} (h : StandsAt all position xs) where
   -- element by element
-  pub stands-get : (k : ℕ) (d : A) → k < length xs → get_or all (position + k) d ≡ get_or xs k d
-  stands-get k d le =
+  pub stands_get : (k : ℕ) (d : A) → k < length xs → get_or all (position + k) d ≡ get_or xs k d
+  stands_get k d le =
       ap₂ (λ (l : List A) (n : ℕ). get_or l (n + k) d) h.cut (sym h.from)
       ∙ get_or-append-add h.before (xs ++ h.after) k d
       ∙ get_or-append xs h.after d k le
 
   -- as a slice
-  pub stands-slice : slice position (position + length xs) all ≡ xs
-  stands-slice =
-      slice-take position (length xs) all
+  pub stands_slice : slice position (position + length xs) all ≡ xs
+  stands_slice =
+      slice_take position (length xs) all
       ∙ ap (take (length xs)) (ap (drop position) h.cut ∙ drop_at h.before (xs ++ h.after) position h.from)
       ∙ take_at xs h.after (length xs) refl
 
-  pub stands-inside : position + length xs ≤ length all
-  stands-inside =
+  pub stands_inside : position + length xs ≤ length all
+  stands_inside =
       let n = ap length h.cut ∙ length-append h.before (xs ++ h.after) in
       let m = length-append xs h.after in
       omega (arith, h.from)
 
   -- in a longer list
-  pub stands-left : (ys : List A) → StandsAt (all ++ ys) position xs
-  stands-left ys =
+  pub stands_left : (ys : List A) → StandsAt (all ++ ys) position xs
+  stands_left ys =
       record {
         before = h.before;
         after = h.after ++ ys;
@@ -54,8 +54,8 @@ module _ {A : Type 0} {all : List A} {position : ℕ} {xs : List A} (h : StandsA
         from = h.from;
       }
 
-  pub stands-right : (ys : List A) → StandsAt (ys ++ all) (length ys + position) xs
-  stands-right ys =
+  pub stands_right : (ys : List A) → StandsAt (ys ++ all) (length ys + position) xs
+  stands_right ys =
       record {
         before = ys ++ h.before;
         after = h.after;
@@ -64,14 +64,14 @@ module _ {A : Type 0} {all : List A} {position : ℕ} {xs : List A} (h : StandsA
       }
 
 -- the first of two parts, one after the other
-pub stands-part : {A : Type 0} {all : List A} {position : ℕ} (xs ys : List A) → StandsAt all position (xs ++ ys) → StandsAt all position xs
-stands-part {A} xs ys h =
+pub stands_part : {A : Type 0} {all : List A} {position : ℕ} (xs ys : List A) → StandsAt all position (xs ++ ys) → StandsAt all position xs
+stands_part {A} xs ys h =
     record { before = h.before; after = ys ++ h.after; cut = h.cut ∙ ap (λ (l : List A). h.before ++ l) (append_assoc xs ys h.after); from = h.from }
 
 module _ {A : Type 0} where
   -- the second of two parts, one after the other
-  pub stands-rest : {all : List A} {i : ℕ} (xs ys : List A) → StandsAt all i (xs ++ ys) → StandsAt all (i + length xs) ys
-  stands-rest xs ys h =
+  pub stands_rest : {all : List A} {i : ℕ} (xs ys : List A) → StandsAt all i (xs ++ ys) → StandsAt all (i + length xs) ys
+  stands_rest xs ys h =
       record {
         before = h.before ++ xs;
         after = h.after;
@@ -81,18 +81,18 @@ module _ {A : Type 0} where
 
   -- the first element of a part, and those after it
   pub stands_here : {all : List A} {i : ℕ} {x : A} {xs : List A} → StandsAt all i (x ∷ xs) → (d : A) → get_or all i d ≡ x
-  stands_here {all} {i} h d = sym (ap (λ (n : ℕ). get_or all n d) (add-zero i)) ∙ stands-get h 0 d (omega arith)
+  stands_here {all} {i} h d = sym (ap (λ (n : ℕ). get_or all n d) (add-zero i)) ∙ stands_get h 0 d (omega arith)
 
-  pub stands-next : {all : List A} {i : ℕ} {x : A} {xs : List A} → StandsAt all i (x ∷ xs) → StandsAt all (i + 1) xs
-  stands-next {x = x} {xs = xs} h = stands-rest (x ∷ []) xs h
+  pub stands_next : {all : List A} {i : ℕ} {x : A} {xs : List A} → StandsAt all i (x ∷ xs) → StandsAt all (i + 1) xs
+  stands_next {x = x} {xs = xs} h = stands_rest (x ∷ []) xs h
 
   -- an element of a list stands in it
   pub stands_one : (xs : List A) (k : ℕ) (d : A) → k < length xs → StandsAt xs k (get_or xs k d ∷ [])
   stands_one xs k d le =
       record { before = take k xs; after = drop (suc k) xs; cut = split_at xs k d le; from = length-take-le k xs (omega arith) }
 
-pub stands-whole : {A : Type 0} (xs : List A) → StandsAt xs 0 xs
-stands-whole xs = record { before = []; after = []; cut = sym (append-nil xs); from = refl }
+pub stands_whole : {A : Type 0} (xs : List A) → StandsAt xs 0 xs
+stands_whole xs = record { before = []; after = []; cut = sym (append-nil xs); from = refl }
 
 -- ---- a part of a format
 
@@ -101,9 +101,9 @@ stands-whole xs = record { before = []; after = []; cut = sym (append-nil xs); f
 pub record Within (cs : List ℕ) (vs : List Fraction) (ms : ℕ → ℕ → List Mark) {B : Type 0} (h : Format B) (b : B) : Type 0 where
   pub cell : ℕ
   pub number : ℕ
-  pub cells-stand : StandsAt cs cell (cells h b)
-  pub values-stand : StandsAt vs number (values h b)
-  pub marks-among : (i v : ℕ) (m : Mark) → Memᴰ m (marks h b (i + cell) (v + number)) → Memᴰ m (ms i v)
+  pub cells_stand : StandsAt cs cell (cells h b)
+  pub values_stand : StandsAt vs number (values h b)
+  pub marks_among : (i v : ℕ) (m : Mark) → Memᴰ m (marks h b (i + cell) (v + number)) → Memᴰ m (ms i v)
 
 module _ {B : Type 0} {h : Format B} {b : B} where
   within-left : {cs : List ℕ} {vs : List Fraction} {ms : ℕ → ℕ → List Mark} (ds : List ℕ) (ws : List Fraction) (ns : ℕ → ℕ → List Mark)
@@ -112,22 +112,22 @@ module _ {B : Type 0} {h : Format B} {b : B} where
       record {
         cell = p.cell;
         number = p.number;
-        cells-stand = stands-left p.cells-stand ds;
-        values-stand = stands-left p.values-stand ws;
-        marks-among = λ i v m k. Memᴰ.append_left (ns i v) (p.marks-among i v m k);
+        cells_stand = stands_left p.cells_stand ds;
+        values_stand = stands_left p.values_stand ws;
+        marks_among = λ i v m k. Memᴰ.append_left (ns i v) (p.marks_among i v m k);
       }
 
-  within-right : (cs : List ℕ) (vs : List Fraction) (ms : ℕ → ℕ → List Mark) {ds : List ℕ} {ws : List Fraction} {ns : ℕ → ℕ → List Mark}
+  within_right : (cs : List ℕ) (vs : List Fraction) (ms : ℕ → ℕ → List Mark) {ds : List ℕ} {ws : List Fraction} {ns : ℕ → ℕ → List Mark}
       → Within ds ws ns h b → Within (cs ++ ds) (vs ++ ws) (λ i v. ms i v ++ ns (i + length cs) (v + length vs)) h b
-  within-right cs vs ms p =
+  within_right cs vs ms p =
       record {
         cell = length cs + p.cell;
         number = length vs + p.number;
-        cells-stand = stands-right p.cells-stand cs;
-        values-stand = stands-right p.values-stand vs;
-        marks-among = λ i v m k.
+        cells_stand = stands_right p.cells_stand cs;
+        values_stand = stands_right p.values_stand vs;
+        marks_among = λ i v m k.
             Memᴰ.append_right (ms i v)
-            (p.marks-among (i + length cs) (v + length vs) m
+            (p.marks_among (i + length cs) (v + length vs) m
             (subst₂ (λ (j w : ℕ). Memᴰ m (marks h b j w)) (sym (add_assoc i (length cs) p.cell)) (sym (add_assoc v (length vs) p.number)) k));
       }
 
@@ -142,39 +142,39 @@ part-whole {f = f} {a = a} =
           record {
             cell = 0;
             number = 0;
-            cells-stand = stands-whole (cells f a);
-            values-stand = stands-whole (values f a);
-            marks-among = λ i v m. subst₂ (λ (j w : ℕ). Memᴰ m (marks f a j w)) (add-zero i) (add-zero v);
+            cells_stand = stands_whole (cells f a);
+            values_stand = stands_whole (values f a);
+            marks_among = λ i v m. subst₂ (λ (j w : ℕ). Memᴰ m (marks f a j w)) (add-zero i) (add-zero v);
           };
     }
 
 module _ {A B : Type 0} {to : A → B} {from : B → A} {there : (a : A) → from (to a) ≡ a} {back : (b : B) → to (from b) ≡ b} {f : Format A} where
-  pub part-view : {b : B} {D : Type 0} {h : Format D} {d : D} → Part f (from b) h d → Part (view to from there back f) b h d
+  pub part_view : {b : B} {D : Type 0} {h : Format D} {d : D} → Part f (from b) h d → Part (view to from there back f) b h d
   unfolding gather marks
-  part-view p = record { within = p.within }
+  part_view p = record { within = p.within }
 
 module _ {A : Type 0} {B : A → Type 0} {f : Format A} {g : (a : A) → Format (B a)} {ab : (a : A) × B a} {D : Type 0} {h : Format D} {d : D} where
   pub part-first : Part f ab.0 h d → Part (then f g) ab h d
   unfolding gather marks
   part-first p = record { within = within-left _ _ _ p.within }
 
-  pub part-second : Part (g ab.0) ab.1 h d → Part (then f g) ab h d
+  pub part_second : Part (g ab.0) ab.1 h d → Part (then f g) ab h d
   unfolding gather marks
-  part-second p = record { within = within-right (cells f ab.0) (values f ab.0) (marks f ab.0) p.within }
+  part_second p = record { within = within_right (cells f ab.0) (values f ab.0) (marks f ab.0) p.within }
 
 -- the item x of a list, after those before it
 module _ {A : Type 0} (g : List A → Format A) {D : Type 0} {h : Format D} {d : D} where
-  items-within : (done before : List A) (x : A) (after : List A) → Part (g (done ++ before)) x h d
-      → Within (gatherItems (λ before x. cells (g before) x) done (before ++ (x ∷ after))) (gatherItems (λ before x. values (g before) x) done (before ++ (x ∷ after)))
-      (marksItems (λ before x. cells (g before) x) (λ before x. values (g before) x) (λ before x i v. marks (g before) x i v) done (before ++ (x ∷ after))) h d
-  items-within done [] x after p = within-left _ _ _ (subst (λ (l : List A). Part (g l) x h d) (append-nil done) p).within
-  items-within done (y ∷ before) x after p =
-      within-right (cells (g done) y) (values (g done) y) (marks (g done) y)
-      (items-within (done ++ (y ∷ [])) before x after (subst (λ (l : List A). Part (g l) x h d) (sym (append_assoc done (y ∷ []) before)) p))
+  items_within : (done before : List A) (x : A) (after : List A) → Part (g (done ++ before)) x h d
+      → Within (gather_items (λ before x. cells (g before) x) done (before ++ (x ∷ after))) (gather_items (λ before x. values (g before) x) done (before ++ (x ∷ after)))
+      (marks_items (λ before x. cells (g before) x) (λ before x. values (g before) x) (λ before x i v. marks (g before) x i v) done (before ++ (x ∷ after))) h d
+  items_within done [] x after p = within-left _ _ _ (subst (λ (l : List A). Part (g l) x h d) (append-nil done) p).within
+  items_within done (y ∷ before) x after p =
+      within_right (cells (g done) y) (values (g done) y) (marks (g done) y)
+      (items_within (done ++ (y ∷ [])) before x after (subst (λ (l : List A). Part (g l) x h d) (sym (append_assoc done (y ∷ []) before)) p))
 
-  pub part-item : {n : ℕ} {xs : List A} (before : List A) (x : A) (after : List A) → xs ≡ before ++ (x ∷ after) → Part (g before) x h d → Part (items n g) xs h d
+  pub part_item : {n : ℕ} {xs : List A} (before : List A) (x : A) (after : List A) → xs ≡ before ++ (x ∷ after) → Part (g before) x h d → Part (items n g) xs h d
   unfolding gather marks
-  part-item before x after e p = rw e (record { within = items-within [] before x after p })
+  part_item before x after e p = rw e (record { within = items_within [] before x after p })
 
 -- ---- what begins with a name of the row table
 
@@ -182,16 +182,16 @@ module _ {A : Type 0} (g : List A → Format A) {D : Type 0} {h : Format D} {d :
 pub record Begins {A : Type 0} (f : Format A) (a : A) (row : ℕ) (name : Token) : Type 0 where
   pub marked : (i v : ℕ) → Memᴰ (record { row = row; name = name; cells = i; values = v }) (marks f a i v)
 
-pub begins-name : {row : ℕ} {used : List Bytes} {t : Token} → Begins (symbol (rowName row used)) t row t
+pub begins_name : {row : ℕ} {used : List Bytes} {t : Token} → Begins (symbol (row_name row used)) t row t
 unfolding marks
-begins-name = record { marked = λ i v. Memᴰ.head refl }
+begins_name = record { marked = λ i v. Memᴰ.head refl }
 
 module _ {row : ℕ} {name : Token} where
-  pub begins-then : {A : Type 0} {B : A → Type 0} {f : Format A} {g : (a : A) → Format (B a)} {ab : (a : A) × B a} → Begins f ab.0 row name → Begins (then f g) ab row name
+  pub begins_then : {A : Type 0} {B : A → Type 0} {f : Format A} {g : (a : A) → Format (B a)} {ab : (a : A) × B a} → Begins f ab.0 row name → Begins (then f g) ab row name
   unfolding marks
-  begins-then h = record { marked = λ i v. Memᴰ.append_left _ (h.marked i v) }
+  begins_then h = record { marked = λ i v. Memᴰ.append_left _ (h.marked i v) }
 
-  pub begins-view : {A B : Type 0} {to : A → B} {from : B → A} {there : (a : A) → from (to a) ≡ a} {back : (b : B) → to (from b) ≡ b} {f : Format A} {b : B}
+  pub begins_view : {A B : Type 0} {to : A → B} {from : B → A} {there : (a : A) → from (to a) ≡ a} {back : (b : B) → to (from b) ≡ b} {f : Format A} {b : B}
       → Begins f (from b) row name → Begins (view to from there back f) b row name
   unfolding marks
-  begins-view h = record { marked = h.marked }
+  begins_view h = record { marked = h.marked }

@@ -7,7 +7,7 @@ use Rattle.text.specs.Bytes.{Bytes}
 use Rattle.text.specs.Tokens.{Token}
 use Rattle.numerals.specs.Spelling.{SpellsValue}
 use Rattle.grammar.specs.Lists.{Each, NoneOf}
-use Rattle.grammar.specs.Format.{Word, Or, instead, given, Symbol, word, placed, choice, number, name, rowName, value, or, Format, symbol, then, items, nothing, view}
+use Rattle.grammar.specs.Format.{Word, Or, instead, given, Symbol, word, placed, choice, number, name, row_name, value, or, Format, symbol, then, items, nothing, view}
 
 -- ---- one token
 
@@ -23,22 +23,22 @@ abbrev pub IsName : Bytes → Type 0
 IsName w = Each (λ (b : ℕ). (33 ≤ b) × (b ≤ 126)) w
 
 -- the number that digits stand for in decimal: each counts ten to the number of digits after it
-abbrev pub inDecimal : List ℕ → ℕ
-inDecimal [] = 0
-inDecimal (d ∷ ds) = d * 10 ^ length ds + inDecimal ds
+abbrev pub in_decimal : List ℕ → ℕ
+in_decimal [] = 0
+in_decimal (d ∷ ds) = d * 10 ^ length ds + in_decimal ds
 
 -- "digits only, leading zeros allowed": one digit or more, each written by its byte (`0` is 48), that stand for n
 pub record Numeral (n : ℕ) (w : Bytes) : Type 0 where
   pub digits : List ℕ
-  pub below-ten : Each (λ (d : ℕ). d < 10) digits
+  pub below_ten : Each (λ (d : ℕ). d < 10) digits
   pub not-empty : 0 < length digits
   pub written : w ≡ map (◌+◌ 48) digits
-  pub stand-for : inDecimal digits ≡ n
+  pub stand_for : in_decimal digits ≡ n
 
 -- "Counts and indices are digits only", in their range, and distinct from those used
 pub record NumberSpelled (bound : ℕ) (used : List ℕ) (n : ℕ) (w : Bytes) : Type 0 where
   pub numeral : Numeral n w
-  pub in-range : n < bound
+  pub in_range : n < bound
   pub distinct : NoneOf n used
 
 -- this word, or else what the other symbol says
@@ -53,7 +53,7 @@ SymbolSpelled (placed w) p t = (t.bytes ≡ w) × (t.place ≡ p)
 SymbolSpelled (choice cell words out) a t = WordSpelled words a t.bytes × (out a ≡ false)
 SymbolSpelled (number bound used) n t = NumberSpelled bound used n t.bytes
 SymbolSpelled name n t = (t ≡ n) × IsName n.bytes
-SymbolSpelled (rowName row used) n t = (t ≡ n) × IsName n.bytes × NoneOf n.bytes used
+SymbolSpelled (row_name row used) n t = (t ≡ n) × IsName n.bytes × NoneOf n.bytes used
 SymbolSpelled (value cells) f t = SpellsValue f t.bytes
 SymbolSpelled (or w cell s) x t = OrSpelled w (λ a. SymbolSpelled s a t) x t.bytes
 

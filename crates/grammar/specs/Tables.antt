@@ -13,16 +13,16 @@ abbrev pub filled : {A : Type 0} → A → ℕ → List A → List A
 filled filler size xs = xs ++ replicate (size - length xs) filler
 
 -- "The index table holds, in file order, one cell for each count, variable or constraint index, and choice word"
-unfoldable pub indexTable : ℕ → Tree → List ℕ
-indexTable size tree = filled 0 size (cells certificate tree)
+unfoldable pub index_table : ℕ → Tree → List ℕ
+index_table size tree = filled 0 size (cells certificate tree)
 
 -- "The value table holds all values in file order", "numerator, denominator by turns"
-abbrev pub byTurns : List Fraction → List ℤ
-byTurns [] = []
-byTurns (f ∷ fs) = f.num ∷ f.den ∷ byTurns fs
+abbrev pub by_turns : List Fraction → List ℤ
+by_turns [] = []
+by_turns (f ∷ fs) = f.num ∷ f.den ∷ by_turns fs
 
-unfoldable pub valueTable : ℕ → Tree → List ℤ
-valueTable size tree = filled (pos 0) size (byTurns (values certificate tree))
+unfoldable pub value_table : ℕ → Tree → List ℤ
+value_table size tree = filled (pos 0) size (by_turns (values certificate tree))
 
 -- "Row r .. holds: byte place of the name, its length, index cell where its sense stands, number of its right-hand value";
 -- of a solution "name place, length, cell of its count, number of values read before it". A row's sense and a solution's count
@@ -35,5 +35,5 @@ abbrev pub laid : List ℕ → List Mark → List ℕ
 laid table [] = table
 laid table (m ∷ ms) = laid (sets table (4 * m.row) (row_of m)) ms
 
-unfoldable pub rowTable : ℕ → Tree → List ℕ
-rowTable size tree = laid (replicate size 0) (marks certificate tree 0 0)
+unfoldable pub row_table : ℕ → Tree → List ℕ
+row_table size tree = laid (replicate size 0) (marks certificate tree 0 0)

@@ -5,9 +5,9 @@ use Rattle.std.proofs.Common.{sym, ◌∙◌}
 use Rattle.std.proofs.Math.Path.{ap, subst}
 use mathlib.Core.List.{List}
 use Rattle.text.specs.Bytes.{Bytes}
-use Rattle.text.specs.Comments.{commentsEnd}
-use Rattle.text.specs.Tokens.{Token, Stream, end, token, join, listed, rest, tokensOf, TextHasTokens}
-use Rattle.text.specs.TokensLaws.{listed-join, rest-is, text-tokens, text-tokens-only}
+use Rattle.text.specs.Comments.{comments_end}
+use Rattle.text.specs.Tokens.{Token, Stream, end, token, join, listed, rest, tokens_of, TextHasTokens}
+use Rattle.text.specs.TokensLaws.{listed-join, rest_is, text_tokens, text_tokens_only}
 use Rattle.arithmetic.specs.declared.Fraction.{Fraction}
 use Rattle.grammar.specs.Tree.{Tree}
 use Rattle.grammar.specs.Spelling.{Spells}
@@ -15,7 +15,7 @@ use Rattle.grammar.specs.Certificate.{certificate}
 use Rattle.grammar.specs.Reading.{Read, got, stopped, read}
 use Rattle.grammar.specs.SymbolAgreement.{impossible}
 use Rattle.grammar.specs.Agreement.{sound, complete}
-use Rattle.grammar.specs.Unambiguous.{certificate-clear}
+use Rattle.grammar.specs.Unambiguous.{certificate_clear}
 use Rattle.grammar.specs.Layout.{cells, values, names}
 
 -- ---- what a text spells
@@ -23,7 +23,7 @@ use Rattle.grammar.specs.Layout.{cells, values, names}
 -- "A text spells a certificate exactly if its tokens are these, in order, as in 000, with none left over"
 pub record SpellsTree (text : Bytes) (tree : Tree) : Type 0 where
   pub tokens : List Token
-  pub has-tokens : TextHasTokens text tokens
+  pub has_tokens : TextHasTokens text tokens
   pub spelled : Spells certificate tree tokens
 
 -- 01's term: "A certificate is three lists in file order: the numbers that index cells take, the values, all names"
@@ -33,13 +33,13 @@ pub record Certificate : Type 0 where
   pub names : List Bytes
 
 -- "The certificate spelled has these tokens' numbers and values as the tables above write them, and their names byte for byte"
-abbrev pub certificateOf : Tree → Certificate
-certificateOf tree = record { numbers = cells certificate tree; values = values certificate tree; names = names certificate tree }
+abbrev pub certificate_of : Tree → Certificate
+certificate_of tree = record { numbers = cells certificate tree; values = values certificate tree; names = names certificate tree }
 
 pub record SpellsCertificate (text : Bytes) (c : Certificate) : Type 0 where
   pub tree : Tree
   pub spells : SpellsTree text tree
-  pub lists : certificateOf tree ≡ c
+  pub lists : certificate_of tree ≡ c
 
 -- ---- what reading a text gives
 
@@ -53,59 +53,59 @@ abbrev pub ended : Tree → Stream → ReadText
 ended tree (end size) = taken tree
 ended tree (token place bytes s) = refused 8 place
 
-abbrev pub toTheEnd : Read Tree → ReadText
-toTheEnd (got tree s) = ended tree s
-toTheEnd (stopped r p) = refused r p
+abbrev pub to_the_end : Read Tree → ReadText
+to_the_end (got tree s) = ended tree s
+to_the_end (stopped r p) = refused r p
 
 -- "the whole text is read, token by token, each tested 3, 4, 5, 6, 7; then 8"
 unfoldable pub read_of : Bytes → ReadText
-read_of text = toTheEnd (read certificate (rest text (commentsEnd text)))
+read_of text = to_the_end (read certificate (rest text (comments_end text)))
 
 -- ---- both agree
 
-to_the_end : (r : Read Tree) (tree : Tree) → toTheEnd r ≡ taken tree → (size : ℕ) × (r ≡ got tree (end size))
-to_the_end (got t (end size)) tree e = (size, (let p : t ≡ tree = cc in ap (λ (x : Tree). got x (end size)) p))
-to_the_end (got t (token place bytes s)) tree e = impossible (cc)
-to_the_end (stopped r p) tree e = impossible (cc)
+to_the_end_lem : (r : Read Tree) (tree : Tree) → to_the_end r ≡ taken tree → (size : ℕ) × (r ≡ got tree (end size))
+to_the_end_lem (got t (end size)) tree e = (size, (let p : t ≡ tree = cc in ap (λ (x : Tree). got x (end size)) p))
+to_the_end_lem (got t (token place bytes s)) tree e = impossible (cc)
+to_the_end_lem (stopped r p) tree e = impossible (cc)
 
 module _ (text : Bytes) where
   abbrev whole : Stream
-  whole = rest text (commentsEnd text)
+  whole = rest text (comments_end text)
 
-  pub read-sound : (tree : Tree) → read_of text ≡ taken tree → SpellsTree text tree
-  unfolding read_of tokensOf
-  read-sound tree e =
-      let r = to_the_end (read certificate whole) tree e in
+  pub read_sound : (tree : Tree) → read_of text ≡ taken tree → SpellsTree text tree
+  unfolding read_of tokens_of
+  read_sound tree e =
+      let r = to_the_end_lem (read certificate whole) tree e in
       let s = sound certificate whole tree (end r.0) r.1 in
-      let tokens : tokensOf text ≡ s.0 = ap listed s.1 ∙ listed-join s.0 r.0 in
-      record { tokens = s.0; has-tokens = subst (λ (ts : List Token). TextHasTokens text ts) tokens (text-tokens text); spelled = s.2 }
+      let tokens : tokens_of text ≡ s.0 = ap listed s.1 ∙ listed-join s.0 r.0 in
+      record { tokens = s.0; has_tokens = subst (λ (ts : List Token). TextHasTokens text ts) tokens (text_tokens text); spelled = s.2 }
 
-  pub read-complete : (tree : Tree) → SpellsTree text tree → read_of text ≡ taken tree
-  unfolding read_of tokensOf
-  read-complete tree s =
+  pub read_complete : (tree : Tree) → SpellsTree text tree → read_of text ≡ taken tree
+  unfolding read_of tokens_of
+  read_complete tree s =
       let stream : whole ≡ join s.tokens (end (length text)) =
-      rest-is text (commentsEnd text) ∙ ap (λ (ts : List Token). join ts (end (length text))) (sym (text-tokens-only s.has-tokens)) in
-      ap (λ (o : Stream). toTheEnd (read certificate o)) stream
-      ∙ ap toTheEnd (complete certificate tree s.tokens (end (length text)) certificate-clear s.spelled)
+      rest_is text (comments_end text) ∙ ap (λ (ts : List Token). join ts (end (length text))) (sym (text_tokens_only s.has_tokens)) in
+      ap (λ (o : Stream). to_the_end (read certificate o)) stream
+      ∙ ap to_the_end (complete certificate tree s.tokens (end (length text)) certificate_clear s.spelled)
 
   -- a text is taken exactly if it spells a tree
-  pub taken-spelled : (tree : Tree) → (read_of text ≡ taken tree) ↔ SpellsTree text tree
-  taken-spelled tree = (read-sound tree, read-complete tree)
+  pub taken_spelled : (tree : Tree) → (read_of text ≡ taken tree) ↔ SpellsTree text tree
+  taken_spelled tree = (read_sound tree, read_complete tree)
 
   -- a text is taken exactly if it spells some certificate
-  pub taken-certificate : ((tree : Tree) × (read_of text ≡ taken tree)) ↔ ((c : Certificate) × SpellsCertificate text c)
-  taken-certificate = (
-    λ r. (certificateOf r.0, record { tree = r.0; spells = read-sound r.0 r.1; lists = refl }),
-    λ c. (c.1.tree, read-complete c.1.tree c.1.spells),
+  pub taken_certificate : ((tree : Tree) × (read_of text ≡ taken tree)) ↔ ((c : Certificate) × SpellsCertificate text c)
+  taken_certificate = (
+    λ r. (certificate_of r.0, record { tree = r.0; spells = read_sound r.0 r.1; lists = refl }),
+    λ c. (c.1.tree, read_complete c.1.tree c.1.spells),
   )
 
   -- no text spells two
-  pub spelled-once : (a b : Tree) → SpellsTree text a → SpellsTree text b → a ≡ b
-  spelled-once a b s t =
-      let p = read-complete a s in
-      let q = read-complete b t in
+  pub spelled_once : (a b : Tree) → SpellsTree text a → SpellsTree text b → a ≡ b
+  spelled_once a b s t =
+      let p = read_complete a s in
+      let q = read_complete b t in
       cc
 
-  pub certificate-once : (c d : Certificate) → SpellsCertificate text c → SpellsCertificate text d → c ≡ d
-  certificate-once c d s t =
-      sym s.lists ∙ ap certificateOf (spelled-once s.tree t.tree s.spells t.spells) ∙ t.lists
+  pub certificate_once : (c d : Certificate) → SpellsCertificate text c → SpellsCertificate text d → c ≡ d
+  certificate_once c d s t =
+      sym s.lists ∙ ap certificate_of (spelled_once s.tree t.tree s.spells t.spells) ∙ t.lists

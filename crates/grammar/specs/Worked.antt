@@ -1,17 +1,17 @@
 -- Worked cases of reading a text, on either side of each rule of document 01's "Spelling" and "Reasons of refusal": one list,
--- under one statement, `cases-hold`.
+-- under one statement, `cases_hold`.
 -- Assumes nothing.
 use Rattle.std.specs.Prelude.{◌≡◌, refl, List, [], ◌∷◌, ◌++◌, map, ℕ, zero, suc, ◌+◌, ◌/◌, ◌%◌, pos, negsuc, length}
 use Prim.Native.String.{String}
-use Rattle.text.specs.Bytes.{Bytes, isSeparator, isPrintable, isDigit}
+use Rattle.text.specs.Bytes.{Bytes, is_separator, is_printable, is_digit}
 use Rattle.text.specs.Ascii.{ascii}
-use Rattle.text.specs.Comments.{commentsEnd}
-use Rattle.text.specs.Tokens.{rest, streamAt}
+use Rattle.text.specs.Comments.{comments_end}
+use Rattle.text.specs.Tokens.{rest, stream_at}
 use Rattle.text.specs.Lines.{line_of}
 use Rattle.arithmetic.specs.Quotient.{lowest}
 use Rattle.integers.specs.Gcd.{gcd, euclid}
 use Rattle.numerals.specs.Spelling.{quotient_of}
-use Rattle.numerals.specs.Reading.{readValue, outcomeOf, narrowed}
+use Rattle.numerals.specs.Reading.{read_value, outcome_of, narrowed}
 use Rattle.arithmetic.specs.declared.Fraction.{Fraction}
 use Rattle.grammar.specs.Tree.{Term, Direction, minimize, maximize, Sense, equal, at_most, at_least, Side, obj, listed, Row, infinite, finite, Claim, infeas, range, Multiplier, MultiplierList, Unsplit, Reason, asm, lin, rnd, uns, sol, Last, never, index, Derivation, Tree}
 use Rattle.grammar.specs.Certificate.{certificate}
@@ -40,8 +40,8 @@ said direction senses sides claim reasons lasts =
 abbrev pub rows_of : Tree → List Row
 rows_of tree = tree.constraints.rows ++ map (λ (d : Derivation). d.row) tree.derivations.derivations
 
-abbrev pub saidBy : Tree → Said
-saidBy tree =
+abbrev pub said_by : Tree → Said
+said_by tree =
     said tree.objective.direction (map (λ (r : Row). r.sense) (rows_of tree)) (map (λ (r : Row). r.side) (rows_of tree))
     tree.relation.claim (map (λ (d : Derivation). d.reason) tree.derivations.derivations)
     (map (λ (d : Derivation). d.last) tree.derivations.derivations)
@@ -82,7 +82,7 @@ pub data Answer : Type 0 where
 
 abbrev pub answer_of : Bytes → ReadText → Answer
 answer_of text (taken tree) =
-    takes (saidBy tree) (cells certificate tree) (map (λ (m : Mark). m.row ∷ row_of m) (marks certificate tree 0 0))
+    takes (said_by tree) (cells certificate tree) (map (λ (m : Mark). m.row ∷ row_of m) (marks certificate tree 0 0))
 answer_of text (refused reason place) = refuses reason place (line_of text place)
 
 pub record Case : Type 0 where
@@ -103,17 +103,17 @@ infixl 69 ◌&◌
 abbrev pub ◌&◌ : Bytes → String → Bytes
 text & more = text ++ ascii more
 
-abbrev pub int-due : Bytes
-int-due = ascii "VER 1.0\nVAR 1 x\n"
+abbrev pub int_due : Bytes
+int_due = ascii "VER 1.0\nVAR 1 x\n"
 
-abbrev pub con-due : Bytes
-con-due = int-due & "INT 0\nOBJ min 0\n"
+abbrev pub con_due : Bytes
+con_due = int_due & "INT 0\nOBJ min 0\n"
 
-abbrev pub rtp-due : Bytes
-rtp-due = con-due & "CON 1 0 R E 0 0\n"
+abbrev pub rtp_due : Bytes
+rtp_due = con_due & "CON 1 0 R E 0 0\n"
 
-abbrev pub der-due : Bytes
-der-due = rtp-due & "RTP infeas\nSOL 0\n"
+abbrev pub der_due : Bytes
+der_due = rtp_due & "RTP infeas\nSOL 0\n"
 
 -- ---- texts that are built
 
@@ -203,16 +203,16 @@ cases =
     -- each of n names is due: n 256 is in range
     ∷ ascii "VER 1.0\nVAR 256 x y z\n" gives refuses 3 22 3
     -- m 1,024 is in range
-    ∷ con-due & "CON 1024 1024\n" gives refuses 3 46 6
+    ∷ con_due & "CON 1024 1024\n" gives refuses 3 46 6
     -- s 64 is in range
-    ∷ rtp-due & "RTP infeas\nSOL 64\n" gives refuses 3 66 8
+    ∷ rtp_due & "RTP infeas\nSOL 64\n" gives refuses 3 66 8
     -- d 1,024 - m is in range, with m 0 and with m 1
     ∷ no_rows & "DER 1024" gives refuses 3 63 1
-    ∷ der-due & "DER 1023\n" gives refuses 3 74 9
+    ∷ der_due & "DER 1023\n" gives refuses 3 74 9
     -- a value is due
-    ∷ der-due & "DER 1 D E 0 0 { rnd 1 0" gives refuses 3 88 8
+    ∷ der_due & "DER 1 D E 0 0 { rnd 1 0" gives refuses 3 88 8
     -- the last index is due
-    ∷ der-due & "DER 1 D E 0 0 { asm }\n\n" gives refuses 3 88 10
+    ∷ der_due & "DER 1 D E 0 0 { asm }\n\n" gives refuses 3 88 10
     -- ---- "4 token not of the kind due"
     -- a blank line ends the comments
     ∷ ascii "\n%\nVER 1.0" gives refuses 4 1 2
@@ -221,14 +221,14 @@ cases =
     -- a byte outside 33 to 126 where a word, a count or a value is due
     ∷ ascii "VER\u{7f} 1.0" gives refuses 4 0 1
     ∷ ascii "VER 1.0 VAR 1\u{80}" gives refuses 4 12 1
-    ∷ con-due & "CON 1 0 R E 1\u{7f}" gives refuses 4 44 5
+    ∷ con_due & "CON 1 0 R E 1\u{7f}" gives refuses 4 44 5
     -- words in another case
     ∷ ascii "ver 1.0" gives refuses 4 0 1
     ∷ ascii "VER 1.0 Var 0" gives refuses 4 8 1
-    ∷ int-due & "INT 0 OBJ Max" gives refuses 4 26 3
-    ∷ con-due & "CON 1 0 R e 0 0\n" gives refuses 4 42 5
-    ∷ rtp-due & "RTP INFEAS" gives refuses 4 52 6
-    ∷ der-due & "DER 1 D E 0 0 { ASM" gives refuses 4 81 8
+    ∷ int_due & "INT 0 OBJ Max" gives refuses 4 26 3
+    ∷ con_due & "CON 1 0 R e 0 0\n" gives refuses 4 42 5
+    ∷ rtp_due & "RTP INFEAS" gives refuses 4 52 6
+    ∷ der_due & "DER 1 D E 0 0 { ASM" gives refuses 4 81 8
     -- a word and more, or less, of it
     ∷ ascii "VERS 1.0" gives refuses 4 0 1
     ∷ ascii "VER 1.00" gives refuses 4 4 1
@@ -243,51 +243,51 @@ cases =
     ∷ ascii "VER 1.0 VAR -1" gives refuses 4 12 1
     ∷ ascii "VER 1.0 VAR +1 x" gives refuses 4 12 1
     ∷ ascii "VER 1.0 VAR 1.0 x" gives refuses 4 12 1
-    ∷ int-due & "INT -0" gives refuses 4 20 3
-    ∷ int-due & "INT 1 -1" gives refuses 4 22 3
-    ∷ der-due & "DER 1 D E 0 0 { lin 1 -1" gives refuses 4 87 8
+    ∷ int_due & "INT -0" gives refuses 4 20 3
+    ∷ int_due & "INT 1 -1" gives refuses 4 22 3
+    ∷ der_due & "DER 1 D E 0 0 { lin 1 -1" gives refuses 4 87 8
     -- 32 is in no name: it separates
     ∷ ascii "VER 1.0 VAR 1 x y" gives refuses 4 16 1
     -- a name with a byte outside 33 to 126
     ∷ ascii "VER 1.0 VAR 1 x\u{7f}" gives refuses 4 14 1
     ∷ ascii "VER 1.0 VAR 1 x\u{1f}" gives refuses 4 14 1
     ∷ ascii "VER 1.0 VAR 1 x\u{80}" gives refuses 4 14 1
-    ∷ con-due & "CON 1 0 R\u{1f}" gives refuses 4 40 5
-    ∷ con-due & "CON 1 0 R\u{7f}" gives refuses 4 40 5
-    ∷ rtp-due & "RTP infeas SOL 1 s\u{7f}" gives refuses 4 65 6
-    ∷ der-due & "DER 1 D\u{7f}" gives refuses 4 71 8
+    ∷ con_due & "CON 1 0 R\u{1f}" gives refuses 4 40 5
+    ∷ con_due & "CON 1 0 R\u{7f}" gives refuses 4 40 5
+    ∷ rtp_due & "RTP infeas SOL 1 s\u{7f}" gives refuses 4 65 6
+    ∷ der_due & "DER 1 D\u{7f}" gives refuses 4 71 8
     -- `OBJ` is no term list of the objective or of a solution
-    ∷ int-due & "INT 0 OBJ min OBJ" gives refuses 4 30 3
-    ∷ rtp-due & "RTP infeas SOL 1 s OBJ" gives refuses 4 67 6
+    ∷ int_due & "INT 0 OBJ min OBJ" gives refuses 4 30 3
+    ∷ rtp_due & "RTP infeas SOL 1 s OBJ" gives refuses 4 67 6
     -- a value that is misspelled, however wide
-    ∷ con-due & "CON 1 0 R E 1.5-101" gives refuses 4 44 5
-    ∷ int-due & "INT 0 OBJ min 1 0 1/0" gives refuses 4 34 3
-    ∷ der-due & "DER 1 D E 0 0 { lin 1 0 999999999999999999999." gives refuses 4 89 8
+    ∷ con_due & "CON 1 0 R E 1.5-101" gives refuses 4 44 5
+    ∷ int_due & "INT 0 OBJ min 1 0 1/0" gives refuses 4 34 3
+    ∷ der_due & "DER 1 D E 0 0 { lin 1 0 999999999999999999999." gives refuses 4 89 8
     -- 02, request 1: an exponent, and the token that is due after it; one that is too wide; one after a fraction
-    ∷ con-due & "CON 1 0 R E 1.5E-7" gives refuses 3 50 5
-    ∷ con-due & "CON 1 0 R E 1.5E-101" gives refuses 7 44 5
-    ∷ con-due & "CON 1 0 R E 1/2E3" gives refuses 4 44 5
+    ∷ con_due & "CON 1 0 R E 1.5E-7" gives refuses 3 50 5
+    ∷ con_due & "CON 1 0 R E 1.5E-101" gives refuses 7 44 5
+    ∷ con_due & "CON 1 0 R E 1/2E3" gives refuses 4 44 5
     -- a count has none
-    ∷ con-due & "CON 1E0" gives refuses 4 36 5
+    ∷ con_due & "CON 1E0" gives refuses 4 36 5
     -- 01's example with `R1 L 1.5-101`
     ∷ ascii "VER 1.0\nVAR 1\nx\nINT 1\n0\nOBJ max\n1 0 1\nCON 1 0\nR1 L 1.5-101 1 0 2\nRTP range 1 1\nSOL 1\na 1 0 1\nDER 1\nD1 L 1 OBJ { rnd 1 0 1/2 } -1\n" gives refuses 4 51 9
     -- `inf` only above, `-inf` only below
-    ∷ rtp-due & "RTP range inf 1" gives refuses 4 58 6
-    ∷ rtp-due & "RTP range 1 -inf" gives refuses 4 60 6
-    ∷ rtp-due & "RTP range -inf +inf" gives refuses 4 63 6
-    ∷ rtp-due & "RTP range -Inf inf" gives refuses 4 58 6
+    ∷ rtp_due & "RTP range inf 1" gives refuses 4 58 6
+    ∷ rtp_due & "RTP range 1 -inf" gives refuses 4 60 6
+    ∷ rtp_due & "RTP range -inf +inf" gives refuses 4 63 6
+    ∷ rtp_due & "RTP range -Inf inf" gives refuses 4 58 6
     -- braces are tokens
-    ∷ der-due & "DER 1 D E 0 0 {lin" gives refuses 4 79 8
-    ∷ der-due & "DER 1 D E 0 0 lin" gives refuses 4 79 8
-    ∷ der-due & "DER 1 D E 0 0 { lin 0}" gives refuses 4 85 8
-    ∷ der-due & "DER 1 D E 0 0 { asm -1" gives refuses 4 85 8
+    ∷ der_due & "DER 1 D E 0 0 {lin" gives refuses 4 79 8
+    ∷ der_due & "DER 1 D E 0 0 lin" gives refuses 4 79 8
+    ∷ der_due & "DER 1 D E 0 0 { lin 0}" gives refuses 4 85 8
+    ∷ der_due & "DER 1 D E 0 0 { asm -1" gives refuses 4 85 8
     -- no reason beyond 1.0
-    ∷ der-due & "DER 1 D E 0 0 { weak" gives refuses 4 81 8
+    ∷ der_due & "DER 1 D E 0 0 { weak" gives refuses 4 81 8
     -- the last index is digits, or exactly `-1`
-    ∷ der-due & "DER 1 D E 0 0 { asm } -01" gives refuses 4 87 8
-    ∷ der-due & "DER 1 D E 0 0 { asm } -2" gives refuses 4 87 8
+    ∷ der_due & "DER 1 D E 0 0 { asm } -01" gives refuses 4 87 8
+    ∷ der_due & "DER 1 D E 0 0 { asm } -2" gives refuses 4 87 8
     -- `-1` is the last index's alone
-    ∷ der-due & "DER 1 D E 0 0 { uns -1" gives refuses 4 85 8
+    ∷ der_due & "DER 1 D E 0 0 { uns -1" gives refuses 4 85 8
     -- ---- "5 count or index out of range"
     -- n 257; a count of any length is a number
     ∷ ascii "VER 1.0 VAR 257" gives refuses 5 12 1
@@ -295,39 +295,39 @@ cases =
     ∷ ascii "VER 1.0 VAR 100000000000000000000000000000000000000000" gives refuses 5 12 1
     -- INT n + 1, with n 0 and n 1; a variable's index n
     ∷ ascii "VER 1.0 VAR 0 INT 1" gives refuses 5 18 1
-    ∷ int-due & "INT 2" gives refuses 5 20 3
-    ∷ int-due & "INT 1 1" gives refuses 5 22 3
+    ∷ int_due & "INT 2" gives refuses 5 20 3
+    ∷ int_due & "INT 1 1" gives refuses 5 22 3
     -- n + 1 terms in the objective, a row, a solution and a derived row; a variable's index n in each
-    ∷ int-due & "INT 0 OBJ min 2" gives refuses 5 30 3
-    ∷ int-due & "INT 0 OBJ min 1 1" gives refuses 5 32 3
-    ∷ con-due & "CON 1 0 R E 0 2" gives refuses 5 46 5
-    ∷ con-due & "CON 1 0 R E 0 1 1" gives refuses 5 48 5
-    ∷ rtp-due & "RTP infeas SOL 1 s 2" gives refuses 5 67 6
-    ∷ rtp-due & "RTP infeas SOL 1 s 1 1" gives refuses 5 69 6
-    ∷ der-due & "DER 1 D E 0 2" gives refuses 5 77 8
-    ∷ der-due & "DER 1 D E 0 1 1" gives refuses 5 79 8
+    ∷ int_due & "INT 0 OBJ min 2" gives refuses 5 30 3
+    ∷ int_due & "INT 0 OBJ min 1 1" gives refuses 5 32 3
+    ∷ con_due & "CON 1 0 R E 0 2" gives refuses 5 46 5
+    ∷ con_due & "CON 1 0 R E 0 1 1" gives refuses 5 48 5
+    ∷ rtp_due & "RTP infeas SOL 1 s 2" gives refuses 5 67 6
+    ∷ rtp_due & "RTP infeas SOL 1 s 1 1" gives refuses 5 69 6
+    ∷ der_due & "DER 1 D E 0 2" gives refuses 5 77 8
+    ∷ der_due & "DER 1 D E 0 1 1" gives refuses 5 79 8
     -- m 1,025; b m + 1
-    ∷ con-due & "CON 1025" gives refuses 5 36 5
-    ∷ con-due & "CON 0 1" gives refuses 5 38 5
-    ∷ con-due & "CON 2 3" gives refuses 5 38 5
+    ∷ con_due & "CON 1025" gives refuses 5 36 5
+    ∷ con_due & "CON 0 1" gives refuses 5 38 5
+    ∷ con_due & "CON 2 3" gives refuses 5 38 5
     -- s 65
-    ∷ rtp-due & "RTP infeas SOL 65" gives refuses 5 63 6
+    ∷ rtp_due & "RTP infeas SOL 65" gives refuses 5 63 6
     -- d 1,024 - m + 1, with m 0 and with m 1
     ∷ ascii "VER 1.0 VAR 0 INT 0 OBJ min 0 CON 0 0 RTP infeas SOL 0 DER 1025" gives refuses 5 59 1
-    ∷ der-due & "DER 1024" gives refuses 5 69 8
+    ∷ der_due & "DER 1024" gives refuses 5 69 8
     -- multipliers: one more than the row's own index
-    ∷ der-due & "DER 2 D E 0 0 { lin 2" gives refuses 5 85 8
-    ∷ der-due & "DER 2 D E 0 0 { asm } -1\nE E 0 0 { rnd 3" gives refuses 5 104 9
+    ∷ der_due & "DER 2 D E 0 0 { lin 2" gives refuses 5 85 8
+    ∷ der_due & "DER 2 D E 0 0 { asm } -1\nE E 0 0 { rnd 3" gives refuses 5 104 9
     -- a row that names itself, in either kind of list and in each place of `uns`
-    ∷ der-due & "DER 1 D E 0 0 { lin 1 1" gives refuses 5 87 8
-    ∷ der-due & "DER 2 D E 0 0 { asm } -1\nE E 0 0 { rnd 1 2" gives refuses 5 106 9
-    ∷ der-due & "DER 1 D E 0 0 { uns 1" gives refuses 5 85 8
-    ∷ der-due & "DER 1 D E 0 0 { uns 0 1" gives refuses 5 87 8
-    ∷ der-due & "DER 1 D E 0 0 { uns 0 0 1" gives refuses 5 89 8
-    ∷ der-due & "DER 1 D E 0 0 { uns 0 0 0 1" gives refuses 5 91 8
+    ∷ der_due & "DER 1 D E 0 0 { lin 1 1" gives refuses 5 87 8
+    ∷ der_due & "DER 2 D E 0 0 { asm } -1\nE E 0 0 { rnd 1 2" gives refuses 5 106 9
+    ∷ der_due & "DER 1 D E 0 0 { uns 1" gives refuses 5 85 8
+    ∷ der_due & "DER 1 D E 0 0 { uns 0 1" gives refuses 5 87 8
+    ∷ der_due & "DER 1 D E 0 0 { uns 0 0 1" gives refuses 5 89 8
+    ∷ der_due & "DER 1 D E 0 0 { uns 0 0 0 1" gives refuses 5 91 8
     -- last index m + d
-    ∷ der-due & "DER 1 D E 0 0 { asm } 2" gives refuses 5 87 8
-    ∷ der-due & "DER 2 D E 0 0 { asm } 3" gives refuses 5 87 8
+    ∷ der_due & "DER 1 D E 0 0 { asm } 2" gives refuses 5 87 8
+    ∷ der_due & "DER 2 D E 0 0 { asm } 3" gives refuses 5 87 8
     -- ---- "6 index twice in one list, or constraint name used before"
     -- INT's list
     ∷ ascii "VER 1.0\nVAR 2 x y\nINT 2 0 0" gives refuses 6 26 3
@@ -338,27 +338,27 @@ cases =
     ∷ ascii "VER 1.0\nVAR 2 x y\nINT 0\nOBJ min 0\nCON 1 0 R E 0 2 0 1 0" gives refuses 6 54 5
     ∷ ascii "VER 1.0\nVAR 2 x y\nINT 0\nOBJ min 0\nCON 0 0 RTP infeas SOL 1 s 2 0 1 0" gives refuses 6 67 5
     -- multipliers of `lin` and of `rnd`
-    ∷ con-due & "CON 2 0 R E 0 0 S E 0 0 RTP infeas SOL 0 DER 1 D E 0 0 { lin 2 1 1 1" gives refuses 6 99 5
-    ∷ con-due & "CON 2 0 R E 0 0 S E 0 0 RTP infeas SOL 0 DER 1 D E 0 0 { rnd 2 0 1 0" gives refuses 6 99 5
+    ∷ con_due & "CON 2 0 R E 0 0 S E 0 0 RTP infeas SOL 0 DER 1 D E 0 0 { lin 2 1 1 1" gives refuses 6 99 5
+    ∷ con_due & "CON 2 0 R E 0 0 S E 0 0 RTP infeas SOL 0 DER 1 D E 0 0 { rnd 2 0 1 0" gives refuses 6 99 5
     -- names: two given rows, a derived row and a given one, two derived rows
-    ∷ con-due & "CON 2 0\nR E 0 0\nR" gives refuses 6 48 7
-    ∷ der-due & "DER 1\nR" gives refuses 6 71 9
-    ∷ der-due & "DER 2\nD E 0 0 { asm } -1\nD" gives refuses 6 90 10
+    ∷ con_due & "CON 2 0\nR E 0 0\nR" gives refuses 6 48 7
+    ∷ der_due & "DER 1\nR" gives refuses 6 71 9
+    ∷ der_due & "DER 2\nD E 0 0 { asm } -1\nD" gives refuses 6 90 10
     -- ---- "7 value too wide"
     -- in each place of a value
-    ∷ int-due & "INT 0 OBJ min 1 0 2147483648" gives refuses 7 34 3
-    ∷ con-due & "CON 1 0 R E -2147483648" gives refuses 7 44 5
-    ∷ con-due & "CON 1 0 R E 0 1 0 1/2147483648" gives refuses 7 50 5
-    ∷ rtp-due & "RTP range 2147483648" gives refuses 7 58 6
-    ∷ rtp-due & "RTP range -inf 2147483648" gives refuses 7 63 6
-    ∷ rtp-due & "RTP infeas SOL 1 s 1 0 2147483648" gives refuses 7 71 6
-    ∷ der-due & "DER 1 D E 0 0 { lin 1 0 0.0000000001" gives refuses 7 89 8
+    ∷ int_due & "INT 0 OBJ min 1 0 2147483648" gives refuses 7 34 3
+    ∷ con_due & "CON 1 0 R E -2147483648" gives refuses 7 44 5
+    ∷ con_due & "CON 1 0 R E 0 1 0 1/2147483648" gives refuses 7 50 5
+    ∷ rtp_due & "RTP range 2147483648" gives refuses 7 58 6
+    ∷ rtp_due & "RTP range -inf 2147483648" gives refuses 7 63 6
+    ∷ rtp_due & "RTP infeas SOL 1 s 1 0 2147483648" gives refuses 7 71 6
+    ∷ der_due & "DER 1 D E 0 0 { lin 1 0 0.0000000001" gives refuses 7 89 8
     -- ---- "8 a token after the last derivation"
     ∷ ascii "VER 1.0 VAR 0 INT 0 OBJ min 0 CON 0 0 RTP infeas SOL 0 DER 0\nx" gives refuses 8 61 2
     -- also one with a byte outside 33 to 126
     ∷ ascii "VER 1.0 VAR 0 INT 0 OBJ min 0 CON 0 0 RTP infeas SOL 0 DER 0\n\n \u{7f}\u{9f}" gives refuses 8 63 3
     -- one derivation more than d
-    ∷ der-due & "DER 1 D E 0 0 { asm } -1\nE E 0 0 { asm } -1" gives refuses 8 90 9
+    ∷ der_due & "DER 1 D E 0 0 { asm } -1\nE E 0 0 { asm } -1" gives refuses 8 90 9
     -- comments stand at the start only
     ∷ ascii "VER 1.0\nVAR 1\nx\nINT 1\n0\nOBJ max\n1 0 1\nCON 1 0\nR1 L 3 1 0 2\nRTP range 1 1\nSOL 1\na 1 0 1\nDER 1\nD1 L 1 OBJ { rnd 1 0 1/2 } -1\n% end\n" gives refuses 8 123 15
     -- ---- built
@@ -379,6 +379,6 @@ cases =
     ∷ ((ascii "VER 1.0 VAR 0 INT 0 OBJ min 0 CON 0 0 RTP infeas SOL 64\n" ++ repeated 64 (ascii "s 0 ")) & "DER 0 x") gives refuses 8 318 2
     ∷ []
 
-pub cases-hold : Hold cases
-unfolding read_of commentsEnd rest streamAt read gather marks isSeparator isPrintable isDigit readValue outcomeOf narrowed quotient_of lowest gcd euclid line_of
-cases-hold = refl
+pub cases_hold : Hold cases
+unfolding read_of comments_end rest stream_at read gather marks is_separator is_printable is_digit read_value outcome_of narrowed quotient_of lowest gcd euclid line_of
+cases_hold = refl

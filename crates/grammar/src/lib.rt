@@ -1,7 +1,7 @@
 // What document 01 says of texts that spell certificates is in specs/. The code here is the reasons of refusal, which reading
 // and checking share.
 ghost use Rattle.std.specs.Prelude.{◌≡◌};
-ghost use Rattle.grammar.specs.Refusals.{refusalNumber};
+ghost use Rattle.grammar.specs.Refusals.{refusal_number};
 
 // The reasons of refusal, in the order of document 01's table, which numbers them from 1.
 #[derive(Drop)]
@@ -28,7 +28,7 @@ pub enum Refusal {
 
 // A refusal's number.
 pub fn number(refusal: Refusal) -> u8
-    ensures { result ≡ refusalNumber refusal }
+    ensures { result ≡ refusal_number refusal }
 {
     match refusal {
         Refusal::TableTooSmall => 1,

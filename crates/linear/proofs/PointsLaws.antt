@@ -8,79 +8,79 @@ use denote.Enum.Declared.{tag_of}
 use lib.IntN.{ℤ}
 use lib.ListN.{get_or}
 use Rattle.arithmetic.specs.Fraction.{IsFraction}
-use Rattle.arithmetic.specs.Laws.{zeroF, zero_is}
+use Rattle.arithmetic.specs.Laws.{zero_f, zero_is}
 use Rattle.arithmetic.specs.contracts.Arithmetic.{the_type}
 use Rattle.arithmetic.specs.declared.Arithmetic.{Arithmetic}
 use Rattle.arithmetic.specs.declared.Arithmetic.TheVariants.{Value}
 use Rattle.arithmetic.specs.declared.Fraction.{Fraction}
-use Rattle.tables.specs.Limits.{mostVariables}
-use Rattle.tables.specs.Cells.{fractionAt}
-use Rattle.tables.specs.Pairs.{pairsIn}
+use Rattle.tables.specs.Limits.{most_variables}
+use Rattle.tables.specs.Cells.{fraction_at}
+use Rattle.tables.specs.Pairs.{pairs_in}
 use Rattle.grammar.specs.Tree.{Term}
 use Rattle.rules.specs.Result.{Result, done, refused, through}
-use Rattle.rules.specs.Rows.{valueIn}
-use Rattle.rules.specs.Solutions.{leftSide}
-use Rattle.senses.proofs.ArithmeticLaws.{says, is-refused, plusProduct, plus-product-is}
-use Rattle.linear.specs.Lists.{aTerm, termsIn, TermsBelow}
-use Rattle.linear.specs.ListsLaws.{listedFrom, listed_next, listed-none}
+use Rattle.rules.specs.Rows.{value_in}
+use Rattle.rules.specs.Solutions.{left_side}
+use Rattle.senses.proofs.ArithmeticLaws.{says, is_refused, plus_product, plus_product_is}
+use Rattle.linear.specs.Lists.{a_term, terms_in, TermsBelow}
+use Rattle.linear.specs.ListsLaws.{listed_from, listed_next, listed_none}
 use Rattle.linear.specs.Coefficients.{AreFractions}
-use Rattle.linear.proofs.Going.{Going, first-is, going_on, going-stop, going_end}
+use Rattle.linear.proofs.Going.{Going, first_is, going_on, going_stop, going_end}
 
 -- one term
-abbrev pub sumStep : (ℕ → Fraction) → ℕ → Fraction → Term → Result Fraction
-sumStep point place sum t = plusProduct place sum t.coefficient (point t.variable)
+abbrev pub sum_step : (ℕ → Fraction) → ℕ → Fraction → Term → Result Fraction
+sum_step point place sum t = plus_product place sum t.coefficient (point t.variable)
 
 module _ (variables : List ℕ) (parts : List ℤ) (point : ℕ → Fraction) where
   -- what is asked of the terms and the point, and a place
   pub record At : Type 0 where
-    pub terms-below : TermsBelow mostVariables (termsIn variables parts)
+    pub terms-below : TermsBelow most_variables (terms_in variables parts)
     pub fractions : AreFractions point
     pub place : ℕ
 
   abbrev Asked : At → Term → Type 0
-  Asked i t = IsFraction t.coefficient × (t.variable < mostVariables)
+  Asked i t = IsFraction t.coefficient × (t.variable < most_variables)
 
   abbrev Good : At → Fraction → Type 0
   Good i sum = IsFraction sum
 
   abbrev step : At → Fraction → Term → Result Fraction
-  step i = sumStep point i.place
+  step i = sum_step point i.place
 
   abbrev pub sum_of : At → Result Fraction
-  sum_of i = through (step i) zeroF (termsIn variables parts)
+  sum_of i = through (step i) zero_f (terms_in variables parts)
 
   -- the left side of terms, at a point that a term list gives
-  pub left-side : (i : At) (values : List Term) → point ≡ valueIn values → sum_of i ≡ leftSide i.place values (termsIn variables parts)
-  unfolding leftSide
-  left-side i values e = ap (λ (p : ℕ → Fraction). through (sumStep p i.place) zeroF (termsIn variables parts)) e
+  pub left-side : (i : At) (values : List Term) → point ≡ value_in values → sum_of i ≡ left_side i.place values (terms_in variables parts)
+  unfolding left_side
+  left-side i values e = ap (λ (p : ℕ → Fraction). through (sum_step p i.place) zero_f (terms_in variables parts)) e
 
   -- the loop, before term k
   abbrev pub Adding : Fraction → ℕ → Type 0
-  Adding sum k = Going Asked Good step sum_of sum (listedFrom aTerm variables parts k)
+  Adding sum k = Going Asked Good step sum_of sum (listed_from a_term variables parts k)
 
-  pub adding : Adding zeroF 0
+  pub adding : Adding zero_f 0
   adding = record { same = λ i. refl; each = λ i. i.terms-below; good = λ i. zero_is }
 
-  module _ {sum : Fraction} {k : ℕ} (g : Adding sum k) (h : k < pairsIn variables parts) {f x : Fraction} (e : f ≡ fractionAt parts k) (q : x ≡ point (get_or variables k 0))
-      (answer : Arithmetic) (s : IsFraction sum → IsFraction f → IsFraction x → (place : ℕ) → says place answer ≡ plusProduct place sum f x) where
-    abbrev next : listedFrom aTerm variables parts k ≡ aTerm (get_or variables k 0) (fractionAt parts k) ∷ listedFrom aTerm variables parts (k + 1)
-    next = listed_next aTerm variables parts k h
+  module _ {sum : Fraction} {k : ℕ} (g : Adding sum k) (h : k < pairs_in variables parts) {f x : Fraction} (e : f ≡ fraction_at parts k) (q : x ≡ point (get_or variables k 0))
+      (answer : Arithmetic) (s : IsFraction sum → IsFraction f → IsFraction x → (place : ℕ) → says place answer ≡ plus_product place sum f x) where
+    abbrev next : listed_from a_term variables parts k ≡ a_term (get_or variables k 0) (fraction_at parts k) ∷ listed_from a_term variables parts (k + 1)
+    next = listed_next a_term variables parts k h
 
-    step-says : (i : At) → says i.place answer ≡ step i sum (aTerm (get_or variables k 0) (fractionAt parts k))
+    step-says : (i : At) → says i.place answer ≡ step i sum (a_term (get_or variables k 0) (fraction_at parts k))
     step-says i =
-        s (g.good i) (subst IsFraction (sym e) (first-is Asked Good step sum_of next g i).0) (subst IsFraction (sym q) (i.fractions (get_or variables k 0))) i.place
-        ∙ ap₂ (plusProduct i.place sum) e q
+        s (g.good i) (subst IsFraction (sym e) (first_is Asked Good step sum_of next g i).0) (subst IsFraction (sym q) (i.fractions (get_or variables k 0))) i.place
+        ∙ ap₂ (plus_product i.place sum) e q
 
-    step_gives : {t : Fraction} → answer ≡ Value t → (i : At) → step i sum (aTerm (get_or variables k 0) (fractionAt parts k)) ≡ done t
+    step_gives : {t : Fraction} → answer ≡ Value t → (i : At) → step i sum (a_term (get_or variables k 0) (fraction_at parts k)) ≡ done t
     step_gives v i = sym (step-says i) ∙ ap (says i.place) v
 
-    pub adding-on : {t : Fraction} → answer ≡ Value t → Adding t (k + 1)
-    adding-on {t = t} v =
+    pub adding_on : {t : Fraction} → answer ≡ Value t → Adding t (k + 1)
+    adding_on {t = t} v =
         going_on Asked Good step sum_of next g
-        (λ i. (step_gives v i, plus-product-is i.place sum (fractionAt parts k) (point (get_or variables k 0)) t (step_gives v i)))
+        (λ i. (step_gives v i, plus_product_is i.place sum (fraction_at parts k) (point (get_or variables k 0)) t (step_gives v i)))
 
-    pub adding-stop : (tag_of the_type answer ≡ 1) ⊎ (tag_of the_type answer ≡ 2) → (i : At) → refused 12 i.place ≡ sum_of i
-    adding-stop t i = going-stop Asked Good step sum_of next g i 12 i.place (sym (step-says i) ∙ is-refused answer t i.place)
+    pub adding_stop : (tag_of the_type answer ≡ 1) ⊎ (tag_of the_type answer ≡ 2) → (i : At) → refused 12 i.place ≡ sum_of i
+    adding_stop t i = going_stop Asked Good step sum_of next g i 12 i.place (sym (step-says i) ∙ is_refused answer t i.place)
 
-  pub adding-end : {sum : Fraction} {k : ℕ} → Adding sum k → pairsIn variables parts ≤ k → (i : At) → done sum ≡ sum_of i
-  adding-end {k = k} g h i = going_end Asked Good step sum_of (listed-none aTerm variables parts k h) g i
+  pub adding_end : {sum : Fraction} {k : ℕ} → Adding sum k → pairs_in variables parts ≤ k → (i : At) → done sum ≡ sum_of i
+  adding_end {k = k} g h i = going_end Asked Good step sum_of (listed_none a_term variables parts k h) g i

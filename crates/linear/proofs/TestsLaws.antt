@@ -8,43 +8,43 @@ use Prim.Native.Nat.{ℕ, ◌+◌, ◌≤◌, ◌<◌, min}
 use native.Mathlib.Numerals.{add-one}
 use native.Mathlib.Decide.{dec_lt}
 use native.Mathlib.Omega.{arith}
-use Rattle.rules.specs.Tests.{Decides, EveryBelow, all_of, everyBelow, fails, failed, decides_below}
+use Rattle.rules.specs.Tests.{Decides, EveryBelow, all_of, every_below, fails, failed, decides_below}
 
 -- the tests of those that are left give that of all
 module _ {A : Type 0} (test : A → Bool) {x : A} {left rest : List A} {target : Bool} (g : all_of test left ≡ target) (e : left ≡ x ∷ rest) {r : Bool} (q : r ≡ test x) where
   told : r && all_of test rest ≡ target
   told = ap (λ (b : Bool). b && all_of test rest) q ∙ sym (ap (all_of test) e) ∙ g
 
-  pub tests-on : r ≡ true → all_of test rest ≡ target
-  tests-on t = ap (λ (b : Bool). b && all_of test rest) (sym t) ∙ told
+  pub tests_on : r ≡ true → all_of test rest ≡ target
+  tests_on t = ap (λ (b : Bool). b && all_of test rest) (sym t) ∙ told
 
-  pub tests-stop : r ≡ false → false ≡ target
-  tests-stop t = ap (λ (b : Bool). b && all_of test rest) (sym t) ∙ told
+  pub tests_stop : r ≡ false → false ≡ target
+  tests_stop t = ap (λ (b : Bool). b && all_of test rest) (sym t) ∙ told
 
-pub tests-end : {A : Type 0} (test : A → Bool) {left : List A} {target : Bool} → all_of test left ≡ target → left ≡ [] → true ≡ target
-tests-end test g e = sym (ap (all_of test) e) ∙ g
+pub tests_end : {A : Type 0} (test : A → Bool) {left : List A} {target : Bool} → all_of test left ≡ target → left ≡ [] → true ≡ target
+tests_end test g e = sym (ap (all_of test) e) ∙ g
 
 -- ---- of every variable
 
 module _ (test : ℕ → Bool) where
-  decides-each : (n : ℕ) → Decides (everyBelow n test) (EveryBelow n (λ v. test v ≡ true))
-  decides-each n = decides_below test (λ v. test v ≡ true) (λ v. ((λ e. e), λ e. e)) n
+  decides_each : (n : ℕ) → Decides (every_below n test) (EveryBelow n (λ v. test v ≡ true))
+  decides_each n = decides_below test (λ v. test v ≡ true) (λ v. ((λ e. e), λ e. e)) n
 
   -- one more passes
-  pub every-on : (v : ℕ) → everyBelow v test ≡ true → test v ≡ true → everyBelow (v + 1) test ≡ true
-  every-on v e t = rw (add-one v, e, t)
+  pub every_on : (v : ℕ) → every_below v test ≡ true → test v ≡ true → every_below (v + 1) test ≡ true
+  every_on v e t = rw (add-one v, e, t)
 
   -- one fails
-  pub every-stop : (n v : ℕ) → v < n → test v ≡ false → everyBelow n test ≡ false
-  every-stop n v h t = fails (everyBelow n test) (decides-each n) (λ each. failed (decides-true (test v)) t (each v h))
+  pub every_stop : (n v : ℕ) → v < n → test v ≡ false → every_below n test ≡ false
+  every_stop n v h t = fails (every_below n test) (decides_each n) (λ each. failed (decides_true (test v)) t (each v h))
     where
-      decides-true : (b : Bool) → Decides b (b ≡ true)
-      decides-true b = ((λ e. e), λ e. e)
+      decides_true : (b : Bool) → Decides b (b ≡ true)
+      decides_true b = ((λ e. e), λ e. e)
 
   -- all in the arrays pass, and those beyond them do
-  pub every-end : (n v : ℕ) → min n 256 ≤ v → everyBelow v test ≡ true → ((u : ℕ) → 256 ≤ u → test u ≡ true) → everyBelow n test ≡ true
-  every-end n v h e beyond = (decides-each n).1 (λ u k. go u k (dec_lt u v))
+  pub every_end : (n v : ℕ) → min n 256 ≤ v → every_below v test ≡ true → ((u : ℕ) → 256 ≤ u → test u ≡ true) → every_below n test ≡ true
+  every_end n v h e beyond = (decides_each n).1 (λ u k. go u k (dec_lt u v))
     where
       go : (u : ℕ) → u < n → Dec (u < v) → test u ≡ true
-      go u k (yes l) = (decides-each v).0 e u l
+      go u k (yes l) = (decides_each v).0 e u l
       go u k (no l) = beyond u (omega arith)

@@ -4,16 +4,16 @@
 use Rattle.std.specs.Prelude.{List, ℕ, ◌<◌, ℤ}
 use Rattle.arithmetic.specs.Fraction.{IsFraction}
 use Rattle.arithmetic.specs.declared.Fraction.{Fraction}
-use Rattle.tables.specs.Pairs.{listedIn}
+use Rattle.tables.specs.Pairs.{listed_in}
 use Rattle.grammar.specs.Tree.{Term}
 use Rattle.rules.specs.Tests.{All}
 
-abbrev pub aTerm : ℕ → Fraction → Term
-aTerm v f = record { variable = v; coefficient = f }
+abbrev pub a_term : ℕ → Fraction → Term
+a_term v f = record { variable = v; coefficient = f }
 
 -- the terms that two lists are
-abbrev pub termsIn : List ℕ → List ℤ → List Term
-termsIn variables parts = listedIn aTerm variables parts
+abbrev pub terms_in : List ℕ → List ℤ → List Term
+terms_in variables parts = listed_in a_term variables parts
 
 -- each coefficient is a fraction, and each variable below n
 abbrev pub TermsBelow : ℕ → List Term → Type 0

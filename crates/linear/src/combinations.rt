@@ -1,9 +1,9 @@
 // Running combinations of rows.
 ghost use Rattle.std.specs.Prelude.{◌≡◌, true, ℕ};
 ghost use Rattle.rules.specs.Result.{bind};
-ghost use Rattle.rules.specs.Combinations.{emptyCombination, nextCombination};
-ghost use Rattle.linear.specs.Lists.{termsIn};
-ghost use Rattle.linear.specs.Combinations.{combinationOf, combinationSays, HasFractions, Takes};
+ghost use Rattle.rules.specs.Combinations.{empty_combination, next_combination};
+ghost use Rattle.linear.specs.Lists.{terms_in};
+ghost use Rattle.linear.specs.Combinations.{combination_of, combination_says, HasFractions, Takes};
 
 use crate::lists;
 use arithmetic::{Arithmetic, Fraction};
@@ -23,7 +23,7 @@ pub struct Combination {
 impl Combination {
     // No row yet.
     pub fn empty() -> Self
-        ensures empty { combinationOf result ≡ emptyCombination }
+        ensures empty { combination_of result ≡ empty_combination }
         ensures fits { result.fits ≡ true }
         ensures fractions { HasFractions result }
     {
@@ -47,8 +47,8 @@ impl Combination {
         right: Fraction,
         factor: Fraction,
     ) -> Self
-        ensures says { let terms = termsIn variables.now parts.now in Takes self terms right factor → (place : ℕ) → combinationSays place result ≡ bind (combinationSays place self) (nextCombination place factor terms right) }
-        ensures fractions { Takes self (termsIn variables.now parts.now) right factor → HasFractions result }
+        ensures says { let terms = terms_in variables.now parts.now in Takes self terms right factor → (place : ℕ) → combination_says place result ≡ bind (combination_says place self) (next_combination place factor terms right) }
+        ensures fractions { Takes self (terms_in variables.now parts.now) right factor → HasFractions result }
     {
         let count = tables::pairs_in(variables, parts);
         let mut k = 0;

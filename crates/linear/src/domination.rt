@@ -2,15 +2,15 @@
 ghost use Rattle.std.specs.Prelude.{◌≡◌, List, ℕ, ℤ};
 ghost use Rattle.arithmetic.specs.Fraction.{IsFraction, exact};
 ghost use Rattle.arithmetic.specs.declared.Fraction.{Fraction as Value};
-ghost use Rattle.rules.specs.Tests.{all_of, everyBelow};
-ghost use Rattle.rules.specs.Values.{isZero, isSame};
-ghost use Rattle.rules.specs.Rows.{valueIn};
-ghost use Rattle.rules.specs.Domination.{isAbsurd, dominates as dominatesOf};
+ghost use Rattle.rules.specs.Tests.{all_of, every_below};
+ghost use Rattle.rules.specs.Values.{is_zero, is_same};
+ghost use Rattle.rules.specs.Rows.{value_in};
+ghost use Rattle.rules.specs.Domination.{is_absurd, dominates as dominates_of};
 ghost use Rattle.rules.specs.Sentence.Formed.{Formed};
-ghost use Rattle.senses.specs.Senses.{constraintBy};
-ghost use Rattle.linear.specs.Lists.{termsIn};
-ghost use Rattle.linear.specs.Coefficients.{coefficientsOf, AreFractions};
-ghost use Rattle.linear.specs.Comparing.{nonzerosBelow, Compares};
+ghost use Rattle.senses.specs.Senses.{constraint_by};
+ghost use Rattle.linear.specs.Lists.{terms_in};
+ghost use Rattle.linear.specs.Coefficients.{coefficients_of, AreFractions};
+ghost use Rattle.linear.specs.Comparing.{nonzeros_below, Compares};
 
 use crate::lists;
 use arithmetic::Fraction;
@@ -26,7 +26,7 @@ pub struct Compared {
 
 // How many of n coefficients are not zero.
 pub(crate) fn nonzeros(nums: &[i32; 256], n: usize) -> usize
-    ensures { (dens : List ℤ) → result ≡ nonzerosBelow n (coefficientsOf nums.now dens) }
+    ensures { (dens : List ℤ) → result ≡ nonzeros_below n (coefficients_of nums.now dens) }
 {
     let most = lists::in_arrays(n);
     let mut count = 0;
@@ -49,7 +49,7 @@ pub(crate) fn same_terms<'a>(
     dens: &'a [i32; 256],
     nonzero: usize,
 ) -> bool
-    ensures { let terms = termsIn variables.now parts.now in let coefficient = coefficientsOf nums.now dens.now in (n : ℕ) → Formed n terms → AreFractions coefficient → nonzero ≡ nonzerosBelow n coefficient → result ≡ everyBelow n (λ v. isSame (coefficient v) (valueIn terms v)) }
+    ensures { let terms = terms_in variables.now parts.now in let coefficient = coefficients_of nums.now dens.now in (n : ℕ) → Formed n terms → AreFractions coefficient → nonzero ≡ nonzeros_below n coefficient → result ≡ every_below n (λ v. is_same (coefficient v) (value_in terms v)) }
 {
     let count = tables::pairs_in(variables, parts);
     let mut k = 0;
@@ -76,7 +76,7 @@ pub fn compare<'a>(
     dens: &'a [i32; 256],
     n: usize,
 ) -> Compared
-    ensures { let terms = termsIn variables.now parts.now in let coefficient = coefficientsOf nums.now dens.now in Formed n terms → AreFractions coefficient → Compares n coefficient (valueIn terms) result }
+    ensures { let terms = terms_in variables.now parts.now in let coefficient = coefficients_of nums.now dens.now in Formed n terms → AreFractions coefficient → Compares n coefficient (value_in terms) result }
 {
     let nonzero = nonzeros(nums, n);
     let same = same_terms(variables, parts, nums, dens, nonzero);
@@ -89,7 +89,7 @@ pub fn compare<'a>(
 impl Compared {
     // Whether the constraint of these coefficients, with sense s and right side a, dominates the row, with sense t and right side b.
     pub fn dominates(self, s: Sense, a: Fraction, t: Sense, b: Fraction) -> bool
-        ensures { (n : ℕ) (coefficient row : ℕ → Value) → Compares n coefficient row self → IsFraction a → IsFraction b → result ≡ dominatesOf n (constraintBy coefficient s a) (constraintBy row t b) }
+        ensures { (n : ℕ) (coefficient row : ℕ → Value) → Compares n coefficient row self → IsFraction a → IsFraction b → result ≡ dominates_of n (constraint_by coefficient s a) (constraint_by row t b) }
     {
         if self.zero {
             if senses::fails_at_zero(s, a) {
@@ -105,7 +105,7 @@ impl Compared {
 
 // Whether the coefficients of listed terms are all zero.
 fn all_zero(variables: &[u16], parts: &[i32]) -> bool
-    ensures { result ≡ all_of (λ t. isZero (exact t.coefficient)) (termsIn variables.now parts.now) }
+    ensures { result ≡ all_of (λ t. is_zero (exact t.coefficient)) (terms_in variables.now parts.now) }
 {
     let count = tables::pairs_in(variables, parts);
     let mut k = 0;
@@ -120,7 +120,7 @@ fn all_zero(variables: &[u16], parts: &[i32]) -> bool
 
 // "0 ≥ β with β > 0, 0 ≤ β with β < 0, or 0 = β with β ≠ 0", of listed terms.
 pub fn is_absurd(variables: &[u16], parts: &[i32], sense: Sense, right: Fraction) -> bool
-    ensures { let terms = termsIn variables.now parts.now in (n : ℕ) → Formed n terms → result ≡ isAbsurd n (constraintBy (valueIn terms) sense right) }
+    ensures { let terms = terms_in variables.now parts.now in (n : ℕ) → Formed n terms → result ≡ is_absurd n (constraint_by (value_in terms) sense right) }
 {
     if senses::fails_at_zero(sense, right) {
         all_zero(variables, parts)

@@ -1,10 +1,10 @@
 // Lists of variable and coefficient, and the arrays that have a coefficient for each of 256 variables.
 ghost use Rattle.std.specs.Prelude.{◌≡◌, ◌+◌, ◌*◌, ◌<◌, min, length};
-ghost use Rattle.tables.specs.Limits.{mostVariables};
-ghost use Rattle.tables.specs.Cells.{fractionAt};
-ghost use Rattle.rules.specs.Rows.{valueIn};
-ghost use Rattle.linear.specs.Lists.{termsIn, TermsBelow};
-ghost use Rattle.linear.specs.Coefficients.{coefficientsOf, marked};
+ghost use Rattle.tables.specs.Limits.{most_variables};
+ghost use Rattle.tables.specs.Cells.{fraction_at};
+ghost use Rattle.rules.specs.Rows.{value_in};
+ghost use Rattle.linear.specs.Lists.{terms_in, TermsBelow};
+ghost use Rattle.linear.specs.Coefficients.{coefficients_of, marked};
 
 use arithmetic::Fraction;
 use tables::limits;
@@ -19,7 +19,7 @@ pub struct Coefficients {
 // Value k of a list that has it.
 pub(crate) fn value_at(parts: &[i32], k: usize) -> Fraction
     requires { 2 * k + 1 < length parts.now }
-    ensures { result ≡ fractionAt parts.now k }
+    ensures { result ≡ fraction_at parts.now k }
 {
     let num = parts[2 * k];
     let den = parts[2 * k + 1];
@@ -28,7 +28,7 @@ pub(crate) fn value_at(parts: &[i32], k: usize) -> Fraction
 
 // How many of n variables have their place in the arrays.
 pub(crate) fn in_arrays(n: usize) -> usize
-    ensures { result ≡ min n mostVariables }
+    ensures { result ≡ min n most_variables }
 {
     if n < limits::VARIABLES {
         n
@@ -39,7 +39,7 @@ pub(crate) fn in_arrays(n: usize) -> usize
 
 // The coefficient of variable v.
 pub fn coefficient_at<'a>(nums: &'a [i32; 256], dens: &'a [i32; 256], v: usize) -> Fraction
-    ensures { result ≡ coefficientsOf nums.now dens.now v }
+    ensures { result ≡ coefficients_of nums.now dens.now v }
 {
     if limits::VARIABLES <= v {
         return Fraction { num: 0, den: 1 };
@@ -66,7 +66,7 @@ pub(crate) fn is_marked(integers: &[bool; 256], v: usize) -> bool
 
 // The coefficient that listed terms give each variable: from the last to the first, so that the first of a variable counts.
 pub fn coefficients_of(variables: &[u16], parts: &[i32]) -> Coefficients
-    ensures { let terms = termsIn variables.now parts.now in TermsBelow mostVariables terms → coefficientsOf result.nums result.dens ≡ valueIn terms }
+    ensures { let terms = terms_in variables.now parts.now in TermsBelow most_variables terms → coefficients_of result.nums result.dens ≡ value_in terms }
 {
     let mut nums = [0i32; 256];
     let mut dens = [0i32; 256];

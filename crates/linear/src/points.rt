@@ -1,13 +1,13 @@
 // Left sides at a point.
 ghost use Rattle.std.specs.Prelude.{◌≡◌, List, ℕ};
-ghost use Rattle.arithmetic.specs.Fraction.{arithmeticSays};
-ghost use Rattle.tables.specs.Limits.{mostVariables};
+ghost use Rattle.arithmetic.specs.Fraction.{arithmetic_says};
+ghost use Rattle.tables.specs.Limits.{most_variables};
 ghost use Rattle.grammar.specs.Tree.{Term};
 ghost use Rattle.rules.specs.Values.{within12};
-ghost use Rattle.rules.specs.Rows.{valueIn};
-ghost use Rattle.rules.specs.Solutions.{leftSide};
-ghost use Rattle.linear.specs.Lists.{termsIn, TermsBelow};
-ghost use Rattle.linear.specs.Coefficients.{coefficientsOf, AreFractions};
+ghost use Rattle.rules.specs.Rows.{value_in};
+ghost use Rattle.rules.specs.Solutions.{left_side};
+ghost use Rattle.linear.specs.Lists.{terms_in, TermsBelow};
+ghost use Rattle.linear.specs.Coefficients.{coefficients_of, AreFractions};
 
 use crate::lists;
 use arithmetic::{Arithmetic, Fraction};
@@ -20,7 +20,7 @@ pub fn left_of<'a>(
     nums: &'a [i32; 256],
     dens: &'a [i32; 256],
 ) -> Arithmetic
-    ensures { let terms = termsIn variables.now parts.now in let value = coefficientsOf nums.now dens.now in TermsBelow mostVariables terms → AreFractions value → (place : ℕ) (point : List Term) → value ≡ valueIn point → within12 place (arithmeticSays result) ≡ leftSide place point terms }
+    ensures { let terms = terms_in variables.now parts.now in let value = coefficients_of nums.now dens.now in TermsBelow most_variables terms → AreFractions value → (place : ℕ) (point : List Term) → value ≡ value_in point → within12 place (arithmetic_says result) ≡ left_side place point terms }
 {
     let count = tables::pairs_in(variables, parts);
     let mut sum = Fraction { num: 0, den: 1 };

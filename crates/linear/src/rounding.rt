@@ -1,11 +1,11 @@
 // Rounding: which coefficients are integral.
 ghost use Rattle.std.specs.Prelude.{◌≡◌, ℕ};
 ghost use Rattle.grammar.specs.Tree.{Tree};
-ghost use Rattle.rules.specs.Rows.{valueIn, Constraint};
-ghost use Rattle.rules.specs.Rounding.{isIntegral};
+ghost use Rattle.rules.specs.Rows.{value_in, Constraint};
+ghost use Rattle.rules.specs.Rounding.{is_integral};
 ghost use Rattle.rules.specs.Sentence.Formed.{Formed};
-ghost use Rattle.linear.specs.Lists.{termsIn};
-ghost use Rattle.linear.specs.Coefficients.{coefficientsOf, VariablesAre};
+ghost use Rattle.linear.specs.Lists.{terms_in};
+ghost use Rattle.linear.specs.Coefficients.{coefficients_of, VariablesAre};
 
 use crate::lists;
 use senses::values;
@@ -18,7 +18,7 @@ pub fn is_integral<'a>(
     integers: &[bool; 256],
     n: usize,
 ) -> bool
-    ensures { (tree : Tree) → VariablesAre tree n integers.now → (c : Constraint) → c.coefficient ≡ coefficientsOf nums.now dens.now → result ≡ isIntegral tree c }
+    ensures { (tree : Tree) → VariablesAre tree n integers.now → (c : Constraint) → c.coefficient ≡ coefficients_of nums.now dens.now → result ≡ is_integral tree c }
 {
     let most = lists::in_arrays(n);
     let mut v = 0;
@@ -34,7 +34,7 @@ pub fn is_integral<'a>(
 
 // The same of listed terms.
 pub fn are_integral(variables: &[u16], parts: &[i32], integers: &[bool; 256]) -> bool
-    ensures { let terms = termsIn variables.now parts.now in (tree : Tree) (n : ℕ) → VariablesAre tree n integers.now → Formed n terms → (c : Constraint) → c.coefficient ≡ valueIn terms → result ≡ isIntegral tree c }
+    ensures { let terms = terms_in variables.now parts.now in (tree : Tree) (n : ℕ) → VariablesAre tree n integers.now → Formed n terms → (c : Constraint) → c.coefficient ≡ value_in terms → result ≡ is_integral tree c }
 {
     let count = tables::pairs_in(variables, parts);
     let mut k = 0;

@@ -1,12 +1,12 @@
 // Splits: two rows, one of which holds wherever the integer variables are whole.
 ghost use Rattle.std.specs.Prelude.{◌≡◌, ◌≤◌};
-ghost use Rattle.tables.specs.Limits.{mostVariables};
+ghost use Rattle.tables.specs.Limits.{most_variables};
 ghost use Rattle.grammar.specs.Tree.{Tree};
-ghost use Rattle.rules.specs.Rows.{valueIn};
-ghost use Rattle.rules.specs.Splits.{isSplit};
+ghost use Rattle.rules.specs.Rows.{value_in};
+ghost use Rattle.rules.specs.Splits.{is_split};
 ghost use Rattle.rules.specs.Sentence.Formed.{Formed};
-ghost use Rattle.senses.specs.Senses.{constraintBy};
-ghost use Rattle.linear.specs.Lists.{termsIn};
+ghost use Rattle.senses.specs.Senses.{constraint_by};
+ghost use Rattle.linear.specs.Lists.{terms_in};
 ghost use Rattle.linear.specs.Coefficients.{VariablesAre};
 
 use crate::{domination, lists, rounding};
@@ -27,7 +27,7 @@ pub fn is_split(
     integers: &[bool; 256],
     n: usize,
 ) -> bool
-    ensures { let terms = termsIn variables.now parts.now in let terms2 = termsIn variables2.now parts2.now in (tree : Tree) → VariablesAre tree n integers.now → n ≤ mostVariables → Formed n terms → Formed n terms2 → result ≡ isSplit tree (constraintBy (valueIn terms) s a) (constraintBy (valueIn terms2) t b) }
+    ensures { let terms = terms_in variables.now parts.now in let terms2 = terms_in variables2.now parts2.now in (tree : Tree) → VariablesAre tree n integers.now → n ≤ most_variables → Formed n terms → Formed n terms2 → result ≡ is_split tree (constraint_by (value_in terms) s a) (constraint_by (value_in terms2) t b) }
 {
     if !(right_sides::are_adjacent(s, a, t, b) | right_sides::are_adjacent(t, b, s, a)) {
         return false;

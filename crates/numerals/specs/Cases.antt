@@ -1,18 +1,18 @@
 -- The cases of document 01, "Numbers on either side", that are marked P, and cases on either side of the exponents of document 02,
--- request 1: one list, under one statement, `cases-hold`. Each is held to the definitions that the contracts cite. The document's
+-- request 1: one list, under one statement, `cases_hold`. Each is held to the definitions that the contracts cite. The document's
 -- other cases are run (crates value_cases, fraction_cases).
 -- Assumes nothing.
 use Rattle.std.specs.Prelude.{◌≡◌, refl, List, [], ◌∷◌, ℤ, pos, neg_ℤ}
 use Prim.Native.String.{String}
 use Rattle.integers.specs.Gcd.{gcd, euclid}
-use Rattle.text.specs.Bytes.{isDigit}
+use Rattle.text.specs.Bytes.{is_digit}
 use Rattle.text.specs.Ascii.{ascii}
 use Rattle.arithmetic.specs.Outcome.{Outcome, gives, refuses}
-use Rattle.arithmetic.specs.Quotient.{lowest, floorZ, ceilingZ}
-use Rattle.arithmetic.specs.Fraction.{isFraction, within, onFractions, productOf, floorOf, ceilingOf}
+use Rattle.arithmetic.specs.Quotient.{lowest, floor_z, ceiling_z}
+use Rattle.arithmetic.specs.Fraction.{is_fraction, within, on_fractions, product_of, floor_of, ceiling_of}
 use Rattle.arithmetic.specs.declared.Fraction.{Fraction}
 use Rattle.numerals.specs.Spelling.{quotient_of}
-use Rattle.numerals.specs.Reading.{narrowed, outcomeOf, readValue}
+use Rattle.numerals.specs.Reading.{narrowed, outcome_of, read_value}
 
 infix 5 ◌over◌
 abbrev pub ◌over◌ : ℤ → ℤ → Fraction
@@ -26,10 +26,10 @@ pub data Case : Type 0 where
   products : Fraction → Fraction → Outcome Fraction → Case
 
 abbrev pub Holds : Case → Type 0
-Holds (reads token o) = readValue (ascii token) ≡ o
-Holds (floors f o) = floorOf f ≡ o
-Holds (ceilings f o) = ceilingOf f ≡ o
-Holds (products f g o) = productOf f g ≡ o
+Holds (reads token o) = read_value (ascii token) ≡ o
+Holds (floors f o) = floor_of f ≡ o
+Holds (ceilings f o) = ceiling_of f ≡ o
+Holds (products f g o) = product_of f g ≡ o
 
 abbrev pub All : List Case → Type 0
 All [] = Unit {0}
@@ -81,7 +81,7 @@ cases =
     ∷ reads "2.147483648E9" (refuses 7)
     ∷ []
 
-pub cases-hold : All cases
-unfolding readValue outcomeOf narrowed quotient_of isDigit lowest floorZ ceilingZ isFraction within onFractions gcd euclid
-cases-hold =
+pub cases_hold : All cases
+unfolding read_value outcome_of narrowed quotient_of is_digit lowest floor_z ceiling_z is_fraction within on_fractions gcd euclid
+cases_hold =
     (refl, (refl, (refl, (refl, (refl, (refl, (refl, (refl, (refl, (refl, (refl, (refl, (refl, (refl, (refl, (refl, (refl, (refl, (refl, (refl, (refl, (refl, (refl, tt)))))))))))))))))))))))

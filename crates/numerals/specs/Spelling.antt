@@ -5,7 +5,7 @@
 use Rattle.std.specs.Prelude.{◌≡◌, Bool, true, false, cond, [], ◌∷◌, ◌++◌, ◌⊎◌, ℕ, suc, ◌+◌, ◌-◌, ◌*◌, ◌^◌, ◌<◌, eqb, ℤ, pos, negsuc, nat_abs, ◌+ℤ◌, ◌-ℤ◌, length, drop}
 use Rattle.std.proofs.Math.Option.{Option, none, some}
 use Rattle.integers.specs.Signs.{with_sign}
-use Rattle.text.specs.Bytes.{Bytes, every, leading, isNumeral, number_of}
+use Rattle.text.specs.Bytes.{Bytes, every, leading, is_numeral, number_of}
 use Rattle.arithmetic.specs.Quotient.{Quotient, lowest}
 use Rattle.arithmetic.specs.Fraction.{limit}
 use Rattle.arithmetic.specs.declared.Fraction.{Fraction}
@@ -38,64 +38,64 @@ pub record Written : Type 0 where
   pub tail : Tail
 
 -- the bytes that it is written with: `-` is 45, `.` is 46, `/` is 47, `E` is 69, `e` is 101, `+` is 43
-abbrev pub signBytes : Bool → Bytes
-signBytes true = 45 ∷ []
-signBytes false = []
+abbrev pub sign_bytes : Bool → Bytes
+sign_bytes true = 45 ∷ []
+sign_bytes false = []
 
-abbrev pub letterByte : Bool → ℕ
-letterByte true = 69
-letterByte false = 101
+abbrev pub letter_byte : Bool → ℕ
+letter_byte true = 69
+letter_byte false = 101
 
-abbrev pub exponentSign : Sign → Bytes
-exponentSign unsigned = []
-exponentSign plus = 43 ∷ []
-exponentSign minus = 45 ∷ []
+abbrev pub exponent_sign : Sign → Bytes
+exponent_sign unsigned = []
+exponent_sign plus = 43 ∷ []
+exponent_sign minus = 45 ∷ []
 
-abbrev pub exponentBytes : Exponent → Bytes
-exponentBytes e = letterByte e.capital ∷ (exponentSign e.sign ++ e.digits)
+abbrev pub exponent_bytes : Exponent → Bytes
+exponent_bytes e = letter_byte e.capital ∷ (exponent_sign e.sign ++ e.digits)
 
 abbrev pub tail_bytes : Tail → Bytes
 tail_bytes nothing = []
 tail_bytes (point d) = 46 ∷ d
 tail_bytes (slash d) = 47 ∷ d
-tail_bytes (scaled none e) = exponentBytes e
-tail_bytes (scaled (some d) e) = 46 ∷ (d ++ exponentBytes e)
+tail_bytes (scaled none e) = exponent_bytes e
+tail_bytes (scaled (some d) e) = 46 ∷ (d ++ exponent_bytes e)
 
 abbrev pub bytes_of : Written → Bytes
-bytes_of w = signBytes w.negative ++ (w.whole ++ tail_bytes w.tail)
+bytes_of w = sign_bytes w.negative ++ (w.whole ++ tail_bytes w.tail)
 
 -- the digit `0`
-abbrev pub isZero : ℕ → Bool
-isZero b = eqb b 48
+abbrev pub is_zero : ℕ → Bool
+is_zero b = eqb b 48
 
 -- each part is digits; those after a slash are "digits not all zero"
 abbrev pub TailWellFormed : Tail → Type 0
 TailWellFormed nothing = Unit {0}
-TailWellFormed (point d) = isNumeral d ≡ true
-TailWellFormed (slash d) = (isNumeral d ≡ true) × (every isZero d ≡ false)
-TailWellFormed (scaled none e) = isNumeral e.digits ≡ true
-TailWellFormed (scaled (some d) e) = (isNumeral d ≡ true) × (isNumeral e.digits ≡ true)
+TailWellFormed (point d) = is_numeral d ≡ true
+TailWellFormed (slash d) = (is_numeral d ≡ true) × (every is_zero d ≡ false)
+TailWellFormed (scaled none e) = is_numeral e.digits ≡ true
+TailWellFormed (scaled (some d) e) = (is_numeral d ≡ true) × (is_numeral e.digits ≡ true)
 
 pub record WellFormed (w : Written) : Type 0 where
-  pub whole-digits : isNumeral w.whole ≡ true
-  pub tail-digits : TailWellFormed w.tail
+  pub whole-digits : is_numeral w.whole ≡ true
+  pub tail_digits : TailWellFormed w.tail
 
 -- the token is w, written out: it has the shape of a value
 pub record Writes (w : Written) (token : Bytes) : Type 0 where
-  pub well-formed : WellFormed w
+  pub well_formed : WellFormed w
   pub bytes : bytes_of w ≡ token
 
 -- ---- zeros that are dropped
 
 -- "after dropping leading zeros of each whole part": of a numerator, of a denominator (`1/00002`), of what stands before a
 -- point. A lone `0` is a leading zero too, so `0.000003814697265625` has 18 digits
-abbrev pub dropLeading : Bytes → Bytes
-dropLeading w = drop (leading isZero w) w
+abbrev pub drop_leading : Bytes → Bytes
+drop_leading w = drop (leading is_zero w) w
 
 -- "and trailing zeros of a decimal part": of what stands after a point. Its other zeros count
-abbrev pub dropTrailing : Bytes → Bytes
-dropTrailing [] = []
-dropTrailing (b ∷ d) = cond (every isZero (b ∷ d)) [] (b ∷ dropTrailing d)
+abbrev pub drop_trailing : Bytes → Bytes
+drop_trailing [] = []
+drop_trailing (b ∷ d) = cond (every is_zero (b ∷ d)) [] (b ∷ drop_trailing d)
 
 -- ---- with an exponent: N times ten to the power x
 
@@ -107,34 +107,34 @@ places (some d) = d
 -- "Take the digits without the point, leading and trailing zeros dropped: N", of these digits, as digits. Of zeros alone no
 -- digit is left, and N is zero
 abbrev pub significand : Bytes → Bytes
-significand v = dropTrailing (dropLeading v)
+significand v = drop_trailing (drop_leading v)
 
 -- how many zeros N drops at the end
 abbrev pub trailing_zeros : Bytes → ℕ
-trailing_zeros v = length (dropLeading v) - length (significand v)
+trailing_zeros v = length (drop_leading v) - length (significand v)
 
 -- the exponent as it is written
-abbrev pub isMinus : Sign → Bool
-isMinus unsigned = false
-isMinus plus = false
-isMinus minus = true
+abbrev pub is_minus : Sign → Bool
+is_minus unsigned = false
+is_minus plus = false
+is_minus minus = true
 
-abbrev pub exponentOf : Exponent → ℤ
-exponentOf e = with_sign (isMinus e.sign) (number_of e.digits)
+abbrev pub exponent_of : Exponent → ℤ
+exponent_of e = with_sign (is_minus e.sign) (number_of e.digits)
 
 -- "to be multiplied by ten to the power x": the exponent, less the digits after the point, plus the trailing zeros dropped.
--- With this x, N times ten to the power x is the number that is written (`scaled-as-written` of proofs/AsWritten.antt)
-abbrev pub powerOf : Bytes → Option Bytes → Exponent → ℤ
-powerOf w d e = exponentOf e -ℤ pos (length (places d)) +ℤ pos (trailing_zeros (w ++ places d))
+-- With this x, N times ten to the power x is the number that is written (`scaled_as_written` of proofs/AsWritten.antt)
+abbrev pub power_of : Bytes → Option Bytes → Exponent → ℤ
+power_of w d e = exponent_of e -ℤ pos (length (places d)) +ℤ pos (trailing_zeros (w ++ places d))
 
 -- n times ten to the power x, as a quotient
-abbrev pub topScaled : ℕ → ℤ → ℕ
-topScaled n (pos x) = n * 10 ^ x
-topScaled n (negsuc x) = n
+abbrev pub top_scaled : ℕ → ℤ → ℕ
+top_scaled n (pos x) = n * 10 ^ x
+top_scaled n (negsuc x) = n
 
-abbrev pub bottomScaled : ℤ → ℕ
-bottomScaled (pos x) = 1
-bottomScaled (negsuc x) = 10 ^ suc x
+abbrev pub bottom_scaled : ℤ → ℕ
+bottom_scaled (pos x) = 1
+bottom_scaled (negsuc x) = 10 ^ suc x
 
 -- ---- the number that it stands for
 
@@ -143,50 +143,50 @@ abbrev pub top_of : Bytes → Tail → ℕ
 top_of w nothing = number_of w
 top_of w (point d) = number_of (w ++ d)
 top_of w (slash d) = number_of w
-top_of w (scaled d e) = topScaled (number_of (significand (w ++ places d))) (powerOf w d e)
+top_of w (scaled d e) = top_scaled (number_of (significand (w ++ places d))) (power_of w d e)
 
-abbrev pub bottomOf : Bytes → Tail → ℕ
-bottomOf w nothing = 1
-bottomOf w (point d) = 10 ^ length d
-bottomOf w (slash d) = number_of d
-bottomOf w (scaled d e) = bottomScaled (powerOf w d e)
+abbrev pub bottom_of : Bytes → Tail → ℕ
+bottom_of w nothing = 1
+bottom_of w (point d) = 10 ^ length d
+bottom_of w (slash d) = number_of d
+bottom_of w (scaled d e) = bottom_scaled (power_of w d e)
 
 unfoldable pub quotient_of : Written → Quotient
-quotient_of w = record { top = with_sign w.negative (top_of w.whole w.tail); bottom = bottomOf w.whole w.tail }
+quotient_of w = record { top = with_sign w.negative (top_of w.whole w.tail); bottom = bottom_of w.whole w.tail }
 
 -- a quotient's top and bottom as a numerator and a denominator
-abbrev pub asFraction : Quotient → Fraction
-asFraction x = record { num = x.top; den = pos x.bottom }
+abbrev pub as_fraction : Quotient → Fraction
+as_fraction x = record { num = x.top; den = pos x.bottom }
 
 -- ---- its width
 
 -- "more than 18 digits in numerator, denominator or decimal (both its parts together)". The digits are counted as they are
 -- written, before lowest terms: `0/1000000000000000000` has 19
-abbrev pub mostDigits : ℕ
-mostDigits = 18
+abbrev pub most_digits : ℕ
+most_digits = 18
 
-abbrev pub wholeDigits : Bytes → ℕ
-wholeDigits w = length (dropLeading w)
+abbrev pub whole_digits : Bytes → ℕ
+whole_digits w = length (drop_leading w)
 
-abbrev pub decimalDigits : Bytes → ℕ
-decimalDigits d = length (dropTrailing d)
+abbrev pub decimal_digits : Bytes → ℕ
+decimal_digits d = length (drop_trailing d)
 
 abbrev pub TooManyDigits : Bytes → Tail → Type 0
-TooManyDigits w nothing = mostDigits < wholeDigits w
-TooManyDigits w (point d) = mostDigits < wholeDigits w + decimalDigits d
-TooManyDigits w (slash d) = (mostDigits < wholeDigits w) ⊎ (mostDigits < wholeDigits d)
+TooManyDigits w nothing = most_digits < whole_digits w
+TooManyDigits w (point d) = most_digits < whole_digits w + decimal_digits d
+TooManyDigits w (slash d) = (most_digits < whole_digits w) ⊎ (most_digits < whole_digits d)
 -- 02: "N over 18 digits"
-TooManyDigits w (scaled d e) = mostDigits < length (significand (w ++ places d))
+TooManyDigits w (scaled d e) = most_digits < length (significand (w ++ places d))
 
 -- 02: "or x outside -18 to 18". But "N zero gives 0", whatever x is: `0E99999` is 0
-abbrev pub mostPower : ℕ
-mostPower = 18
+abbrev pub most_power : ℕ
+most_power = 18
 
 abbrev pub PowerOutside : Bytes → Tail → Type 0
 PowerOutside w nothing = ⊥
 PowerOutside w (point d) = ⊥
 PowerOutside w (slash d) = ⊥
-PowerOutside w (scaled d e) = (every isZero (w ++ places d) ≡ false) × (mostPower < nat_abs (powerOf w d e))
+PowerOutside w (scaled d e) = (every is_zero (w ++ places d) ≡ false) × (most_power < nat_abs (power_of w d e))
 
 -- "or, in lowest terms, numerator magnitude or denominator above 2,147,483,647"
 abbrev pub BeyondLimit : Quotient → Type 0
@@ -201,8 +201,8 @@ TooWide w = TooManyDigits w.whole w.tail ⊎ PowerOutside w.whole w.tail ⊎ Bey
 pub record SpellsValue (f : Fraction) (token : Bytes) : Type 0 where
   pub written : Written
   pub writes : Writes written token
-  pub not-too-wide : TooWide written → ⊥
-  pub value : asFraction (lowest (quotient_of written)) ≡ f
+  pub not_too_wide : TooWide written → ⊥
+  pub value : as_fraction (lowest (quotient_of written)) ≡ f
 
 -- nothing, since it has the shape of a value and is too wide: 7
 pub record SpellsTooWide (token : Bytes) : Type 0 where

@@ -1,7 +1,7 @@
 -- Cases of powers of ten (document 02, request 6), on either side of the greatest.
 -- Assumes nothing.
 use Rattle.std.specs.Prelude.{◌≡◌, refl, List, [], ◌∷◌, ℕ}
-use Rattle.powers.specs.Powers.{powerOfTen}
+use Rattle.powers.specs.Powers.{power_of_ten}
 
 -- a number, and its power of ten
 pub data Case : Type 0 where
@@ -9,7 +9,7 @@ pub data Case : Type 0 where
 
 abbrev pub All : List Case → Type 0
 All [] = Unit {0}
-All (powers k p ∷ cs) = (powerOfTen k ≡ p) × All cs
+All (powers k p ∷ cs) = (power_of_ten k ≡ p) × All cs
 
 abbrev pub cases : List Case
 cases =
@@ -22,6 +22,6 @@ cases =
     ∷ powers 18446744073709551615 0
     ∷ []
 
-pub cases-hold : All cases
-unfolding powerOfTen
-cases-hold = (refl, (refl, (refl, (refl, (refl, tt)))))
+pub cases_hold : All cases
+unfolding power_of_ten
+cases_hold = (refl, (refl, (refl, (refl, (refl, tt)))))

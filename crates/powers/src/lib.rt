@@ -1,10 +1,10 @@
 // Powers of ten, worked out one by one: nothing keeps a list of them.
 ghost use Rattle.std.specs.Prelude.{◌≡◌};
-ghost use Rattle.powers.specs.Powers.{powerOfTen};
+ghost use Rattle.powers.specs.Powers.{power_of_ten};
 
 // Exactly ten to the power k for 0 to 18, and 0 for any k above.
 pub fn power_of_ten(k: usize) -> u64
-    ensures { result ≡ powerOfTen k }
+    ensures { result ≡ power_of_ten k }
 {
     if k > 18 {
         return 0;

@@ -12,7 +12,7 @@ use mir.Syntax.{w64}
 use mir.Val.{Fits}
 use Rattle.io.specs.Digits.{hex_digit_ascii, last_digits, IsDigitCount}
 use Rattle.text.specs.Bytes.{Bytes}
-use Rattle.program.specs.Line.{decimalBy, decimal}
+use Rattle.program.specs.Line.{decimal_by, decimal}
 
 -- a test of a number below ten, either way
 below : {A : Type 0} (n : ℕ) (a b : A) → n < 10 → cond (ltb n 10) a b ≡ a
@@ -29,8 +29,8 @@ not-below n a b h = go (ltb n 10) refl
     go false e = refl
     go true e = absurd (omega (arith, h, ltb-true n 10 e))
 
-last-digit : (n : ℕ) → hex_digit_ascii (n % 10) ≡ 48 + n % 10
-last-digit n = below (n % 10) (48 + n % 10) (87 + n % 10) (mod-lt n (lit< tt))
+last_digit : (n : ℕ) → hex_digit_ascii (n % 10) ≡ 48 + n % 10
+last_digit n = below (n % 10) (48 + n % 10) (87 + n % 10) (mod-lt n (lit< tt))
 
 -- the digits of n are those of n / 10, and one more
 module _ (n k : ℕ) (f : IsDigitCount 10 1 n (suc (suc k))) where
@@ -47,21 +47,21 @@ module _ (n k : ℕ) (f : IsDigitCount 10 1 n (suc (suc k))) where
     λ h. subst (λ (j : ℕ). 10 ^ j ≤ n / 10) (omega arith) ((le-div_iff_mul-le {k = 10} {x = 10 ^ k} {y = n} (lit< tt)).1 least),
   )
 
-spelled : (k most n : ℕ) → n < most → IsDigitCount 10 1 n k → last_digits 10 k n ≡ decimalBy most n
-unfolding decimalBy
+spelled : (k most n : ℕ) → n < most → IsDigitCount 10 1 n k → last_digits 10 k n ≡ decimal_by most n
+unfolding decimal_by
 spelled zero most n h f = absurd (omega (arith, f.0))
 spelled (suc k) zero n h f = absurd (omega (arith, h))
 spelled (suc zero) (suc most) n h f =
-    ap (λ (d : ℕ). d ∷ []) (last-digit n ∙ ap (◌+◌ 48) (mod-eq_of_lt {n = n} {m = 10} f.1))
-    ∙ sym (below n ((48 + n) ∷ []) (decimalBy most (n / 10) ++ ((48 + n % 10) ∷ [])) f.1)
+    ap (λ (d : ℕ). d ∷ []) (last_digit n ∙ ap (◌+◌ 48) (mod-eq_of_lt {n = n} {m = 10} f.1))
+    ∙ sym (below n ((48 + n) ∷ []) (decimal_by most (n / 10) ++ ((48 + n % 10) ∷ [])) f.1)
 spelled (suc (suc k)) (suc most) n h f =
     let less : n / 10 < most = omega (arith, div-lt_self {n = n} {k = 10} (omega (arith, two_digits n k f)) (lit< tt), h) in
     ap (λ (l : Bytes). l ++ (hex_digit_ascii (n % 10) ∷ [])) (spelled (suc k) most (n / 10) less (one_less n k f))
-    ∙ ap (λ (d : ℕ). decimalBy most (n / 10) ++ (d ∷ [])) (last-digit n)
-    ∙ sym (not-below n ((48 + n) ∷ []) (decimalBy most (n / 10) ++ ((48 + n % 10) ∷ [])) (two_digits n k f))
+    ∙ ap (λ (d : ℕ). decimal_by most (n / 10) ++ (d ∷ [])) (last_digit n)
+    ∙ sym (not-below n ((48 + n) ∷ []) (decimal_by most (n / 10) ++ ((48 + n % 10) ∷ [])) (two_digits n k f))
 
-pub fewest-decimal : (n k : ℕ) → IsDigitCount 10 1 n k → last_digits 10 k n ≡ decimal n
-fewest-decimal n k f = spelled k (suc n) n (omega arith) f
+pub fewest_decimal : (n k : ℕ) → IsDigitCount 10 1 n k → last_digits 10 k n ≡ decimal n
+fewest_decimal n k f = spelled k (suc n) n (omega arith) f
 
 pub few : (n k : ℕ) → Fits w64 n → IsDigitCount 10 1 n k → k ≤ 20
 few n k small f = go (ltb 20 k) refl

@@ -13,7 +13,7 @@ use Rattle.libc.specs.Io.{Moved}
 use Rattle.text.specs.Bytes.{Bytes}
 use Rattle.program.specs.Input.{Advanced, Stopped}
 use Rattle.program.specs.Line.{printed}
-use Rattle.program.specs.Transcript.{lineAfter}
+use Rattle.program.specs.Transcript.{line_after}
 
 -- a read into the room that is left after so many bytes
 module _ (room came more : ℕ) (within : came ≤ room) {left left' : ℕ} (l : left ≡ room - came) (l' : left' ≡ room - came) where
@@ -33,11 +33,11 @@ stopped room before after (pos (suc k)) within h a = absurd (omega (arith, leb-t
 stopped room before after (negsuc k) within h a = omega (arith, within, a)
 
 -- where it is, more came, and it has room
-pub more-came : (room before after : ℕ) (last : ℤ) → le_z last (pos 0) ≡ false → Advanced room before after last
+pub more_came : (room before after : ℕ) (last : ℤ) → le_z last (pos 0) ≡ false → Advanced room before after last
     → (before < after) × (after ≤ room)
-more-came room before after (pos zero) h a = absurd (omega (arith, leb-false 0 0 h))
-more-came room before after (pos (suc k)) h a = (omega (arith, a.0), a.1)
-more-came room before after (negsuc k) h a = absurd (true≢false h)
+more_came room before after (pos zero) h a = absurd (omega (arith, leb-false 0 0 h))
+more_came room before after (pos (suc k)) h a = (omega (arith, a.0), a.1)
+more_came room before after (negsuc k) h a = absurd (true≢false h)
 
 -- a full room stops it, whatever the answer
 pub full : (room came : ℕ) (last : ℤ) → came ≡ room → Stopped room came last
@@ -46,14 +46,14 @@ full room came (pos (suc k)) h = h
 full room came (negsuc k) h = omega (arith, h)
 
 -- the same of an answer that was kept in a local, and of a room as long
-pub stopped-as : {room room' : ℕ} (came : ℕ) {last kept : ℤ} → room' ≡ room → kept ≡ last → Stopped room came last → Stopped room' came kept
-stopped-as {room} came {kept = kept} r k h = subst (λ (n : ℕ). Stopped n came kept) (sym r) (subst (Stopped room came) (sym k) h)
+pub stopped_as : {room room' : ℕ} (came : ℕ) {last kept : ℤ} → room' ≡ room → kept ≡ last → Stopped room came last → Stopped room' came kept
+stopped_as {room} came {kept = kept} r k h = subst (λ (n : ℕ). Stopped n came kept) (sym r) (subst (Stopped room came) (sym k) h)
 
 -- after a failure nothing is handed over, else the line
-pub nothing-after : (last : ℤ) (text : Bytes) → lt_z last (pos 0) ≡ true → [] ≡ lineAfter last text
-nothing-after (pos k) text h = absurd (omega (arith, ltb-true k 0 h))
-nothing-after (negsuc k) text h = refl
+pub nothing_after : (last : ℤ) (text : Bytes) → lt_z last (pos 0) ≡ true → [] ≡ line_after last text
+nothing_after (pos k) text h = absurd (omega (arith, ltb-true k 0 h))
+nothing_after (negsuc k) text h = refl
 
-pub line_after : (last : ℤ) (text : Bytes) {line : Bytes} → lt_z last (pos 0) ≡ false → line ≡ printed text → line ≡ lineAfter last text
-line_after (pos k) text h made = made
-line_after (negsuc k) text h made = absurd (true≢false h)
+pub line_after_lem : (last : ℤ) (text : Bytes) {line : Bytes} → lt_z last (pos 0) ≡ false → line ≡ printed text → line ≡ line_after last text
+line_after_lem (pos k) text h made = made
+line_after_lem (negsuc k) text h made = absurd (true≢false h)

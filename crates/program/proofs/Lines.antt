@@ -8,8 +8,8 @@ use lib.ListN.{length, take, length-take}
 use lib.Seq.{take_all, take-length}
 use Rattle.io.specs.Counts.{IsPrefixLen}
 use Rattle.text.specs.Bytes.{Bytes}
-use Rattle.tables.specs.Limits.{indexCells, valueCells, rowCells}
-use Rattle.reader.specs.Promise.{courseOf}
+use Rattle.tables.specs.Limits.{index_cells, value_cells, row_cells}
+use Rattle.reader.specs.Promise.{course_of}
 use Rattle.checker.specs.Promise.{Answer, answer_of}
 use Rattle.program.specs.Line.{line_for, printed}
 
@@ -18,21 +18,21 @@ extended : {line' line whole : Bytes} (part : Bytes) → line ≡ whole → line
 extended part known h = h ∙ ap (λ (l : Bytes). l ++ part) known
 
 -- a line that got five parts in turn
-pub five-parts : {l₁ l₂ l₃ l₄ l₅ : Bytes} (a b c d e : Bytes)
+pub five_parts : {l₁ l₂ l₃ l₄ l₅ : Bytes} (a b c d e : Bytes)
     → l₁ ≡ a → l₂ ≡ l₁ ++ b → l₃ ≡ l₂ ++ c → l₄ ≡ l₃ ++ d → l₅ ≡ l₄ ++ e → l₅ ≡ (((a ++ b) ++ c) ++ d) ++ e
-five-parts a b c d e h₁ h₂ h₃ h₄ h₅ = extended e (extended d (extended c (extended b h₁ h₂) h₃) h₄) h₅
+five_parts a b c d e h₁ h₂ h₃ h₄ h₅ = extended e (extended d (extended c (extended b h₁ h₂) h₃) h₄) h₅
 
 -- a number of bytes that the line has
 pub counted : (n : ℕ) (line : Bytes) → n ≤ length line → IsPrefixLen n line
 counted n line h = (h, omega (arith, length-take n line))
 
 -- the line for the answer of verifying a text, with tables of as many cells as needed
-pub line_of : (text : Bytes) {line : Bytes} {a : Answer} {i v r : ℕ} → i ≡ indexCells → v ≡ valueCells → r ≡ rowCells
-    → line ≡ line_for a → a ≡ answer_of text (courseOf text i v r) → line ≡ printed text
-line_of text p q s l e = l ∙ ap line_for e ∙ (λ k. line_for (answer_of text (courseOf text (p k) (q k) (s k))))
+pub line_of : (text : Bytes) {line : Bytes} {a : Answer} {i v r : ℕ} → i ≡ index_cells → v ≡ value_cells → r ≡ row_cells
+    → line ≡ line_for a → a ≡ answer_of text (course_of text i v r) → line ≡ printed text
+line_of text p q s l e = l ∙ ap line_for e ∙ (λ k. line_for (answer_of text (course_of text (p k) (q k) (s k))))
 
 -- so many bytes of a room, at most all
-pub at-most-all : (room : Bytes) (came : ℕ) {n : ℕ} → n ≡ min came (length room) → take n room ≡ take came room
-at-most-all room came {n} h = min_cases came (length room) (take n room ≡ take came room)
+pub at_most_all : (room : Bytes) (came : ℕ) {n : ℕ} → n ≡ min came (length room) → take n room ≡ take came room
+at_most_all room came {n} h = min_cases came (length room) (take n room ≡ take came room)
     (λ less same. ap (λ (k : ℕ). take k room) (h ∙ same))
     (λ more same. ap (λ (k : ℕ). take k room) (h ∙ same) ∙ take-length room ∙ sym (take_all came room more))

@@ -13,9 +13,9 @@ use Rattle.program.specs.Input.{Stopped}
 use Rattle.program.specs.Line.{printed, printed-means}
 
 -- the line for what came, by what the last read answered: none where it failed
-abbrev pub lineAfter : ℤ → Bytes → Bytes
-lineAfter (pos more) text = printed text
-lineAfter (negsuc k) text = []
+abbrev pub line_after : ℤ → Bytes → Bytes
+line_after (pos more) text = printed text
+line_after (negsuc k) text = []
 
 -- a run that left this transcript. Free is what stands after the bytes that came, and after those of the line
 pub record InputAnswered (t : Transcript) : Type 0 where
@@ -23,10 +23,10 @@ pub record InputAnswered (t : Transcript) : Type 0 where
   pub stopped : Stopped (length t.text) t.came t.last
   -- the line is that for the bytes that came
   pub counted : IsPrefixLen t.size t.line
-  pub line_made : take t.size t.line ≡ lineAfter t.last (take t.came t.text)
+  pub line_made : take t.size t.line ≡ line_after t.last (take t.came t.text)
   -- where it is `verified`, the sentence about points holds of them
-  pub verified-means : take t.size t.line ≡ ascii "verified\n" → SentenceOf (take t.came t.text)
+  pub verified_means : take t.size t.line ≡ ascii "verified\n" → SentenceOf (take t.came t.text)
 
-pub after-means : (last : ℤ) (text : Bytes) → lineAfter last text ≡ ascii "verified\n" → SentenceOf text
+pub after-means : (last : ℤ) (text : Bytes) → line_after last text ≡ ascii "verified\n" → SentenceOf text
 after-means (pos more) text h = printed-means text h
 after-means (negsuc k) text h = absurd (let z : ◌≡◌ {A = ℕ} 0 118 = ap (λ (b : Bytes). get_or b 0 0) h in omega arith)

@@ -1,7 +1,7 @@
 // The line that is printed for a text.
 ghost use Rattle.std.specs.Prelude.{◌≡◌, ◌++◌, ◌+◌, ◌≤◌, min, length, take};
 ghost use Rattle.io.specs.Counts.{IsPrefixLen};
-ghost use Rattle.checker.specs.Promise.{refuses, verificationSays};
+ghost use Rattle.checker.specs.Promise.{refuses, verification_says};
 ghost use Rattle.program.specs.Line.{LineMade, decimal, line_for};
 
 use crate::ROOM;
@@ -49,7 +49,7 @@ fn put_refused(line: &mut [u8], reason: u8, at: usize) -> usize
 fn put_answer(line: &mut [u8], answer: Verification) -> usize
     requires { 50 ≤ length line.old }
     ensures prefix_len { IsPrefixLen result line.new }
-    ensures line_after { take result line.new ≡ line_for (verificationSays answer) }
+    ensures line_after { take result line.new ≡ line_for (verification_says answer) }
 {
     match answer {
         Verification::Verified => put(line, 0, b"verified\n"),

@@ -10,14 +10,14 @@ use lib.Seq.{sets, sets-eq}
 use Rattle.grammar.specs.Tables.{filled}
 
 module _ {A : Type 0} (z : A) where
-  drop-zeros : (k n : ℕ) → drop k (replicate n z) ≡ replicate (n - k) z
-  drop-zeros zero n = ap (λ (k : ℕ). replicate k z) (sym (sub-zero n))
-  drop-zeros (suc k) zero = let e : 0 ≡ 0 - suc k = omega arith in ap (λ (i : ℕ). replicate i z) e
-  drop-zeros (suc k) (suc n) = let e : n - k ≡ suc n - suc k = omega arith in drop-zeros k n ∙ ap (λ (i : ℕ). replicate i z) e
+  drop_zeros : (k n : ℕ) → drop k (replicate n z) ≡ replicate (n - k) z
+  drop_zeros zero n = ap (λ (k : ℕ). replicate k z) (sym (sub-zero n))
+  drop_zeros (suc k) zero = let e : 0 ≡ 0 - suc k = omega arith in ap (λ (i : ℕ). replicate i z) e
+  drop_zeros (suc k) (suc n) = let e : n - k ≡ suc n - suc k = omega arith in drop_zeros k n ∙ ap (λ (i : ℕ). replicate i z) e
 
   -- these from the start of a cleared table, and z elsewhere
-  pub filled-cleared : (size : ℕ) (xs : List A) → length xs ≤ size → sets (replicate size z) 0 xs ≡ filled z size xs
-  filled-cleared size xs h =
+  pub filled_cleared : (size : ℕ) (xs : List A) → length xs ≤ size → sets (replicate size z) 0 xs ≡ filled z size xs
+  filled_cleared size xs h =
       sets-eq xs (replicate size z) 0 (omega (arith, length-replicate size z))
       ∙ ap (λ (k : ℕ). xs ++ drop k (replicate size z)) (zero-add (length xs))
-      ∙ ap (λ (t : List A). xs ++ t) (drop-zeros (length xs) size)
+      ∙ ap (λ (t : List A). xs ++ t) (drop_zeros (length xs) size)

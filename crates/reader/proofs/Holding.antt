@@ -11,59 +11,59 @@ use lib.ListN.{length, get_or}
 use lib.Seq.{slice}
 use Rattle.text.specs.Bytes.{Bytes}
 use Rattle.text.specs.Tokens.{Token}
-use Rattle.tables.specs.Limits.{mostRows, rowCells}
+use Rattle.tables.specs.Limits.{most_rows, row_cells}
 use Rattle.arithmetic.specs.declared.Fraction.{Fraction}
 use Rattle.grammar.specs.Tree.{Row, Solution, Tree}
 use Rattle.grammar.specs.Layout.{Mark}
-use Rattle.grammar.specs.Tables.{byTurns, indexTable, valueTable, rowTable}
+use Rattle.grammar.specs.Tables.{by_turns, index_table, value_table, row_table}
 use Rattle.grammar.specs.Texts.{SpellsTree}
-use Rattle.grammar.specs.Contents.{rowIndexCells, rowValues, sideValues, termCells, termValues}
+use Rattle.grammar.specs.Contents.{row_index_cells, row_values, side_values, term_cells, term_values}
 use Rattle.grammar.specs.Names.{names_stand}
-use Rattle.grammar.specs.Positions.{StandsAt, stands_here, stands-next, stands-slice}
-use Rattle.grammar.specs.Ranges.{rows_of, tree-in-range}
-use Rattle.grammar.specs.Rows.{Kept, row_kept, solution-kept, index-stands, values-stand, RowAt, row-found}
-use Rattle.reader.specs.Holds.{rowCell, value_at, NameHeld, RowHeld, SolutionHeld}
+use Rattle.grammar.specs.Positions.{StandsAt, stands_here, stands_next, stands_slice}
+use Rattle.grammar.specs.Ranges.{rows_of, tree_in_range}
+use Rattle.grammar.specs.Rows.{Kept, row_kept, solution-kept, index_stands, values_stand, RowAt, row_found}
+use Rattle.reader.specs.Holds.{row_cell, value_at, NameHeld, RowHeld, SolutionHeld}
 
-module _ {text : Bytes} {tree : Tree} (s : SpellsTree text tree) (i v r : ℕ) (enough : rowCells ≤ r) where
+module _ {text : Bytes} {tree : Tree} (s : SpellsTree text tree) (i v r : ℕ) (enough : row_cells ≤ r) where
   abbrev index : List ℕ
-  index = indexTable i tree
+  index = index_table i tree
 
   abbrev values : List ℤ
-  values = valueTable v tree
+  values = value_table v tree
 
   abbrev rows : List ℕ
-  rows = rowTable r tree
+  rows = row_table r tree
 
   module _ {row : ℕ} {name : Token} {cs : List ℕ} {vs : List Fraction} (k : Kept tree row name cs vs) where
     found : RowAt rows (record { row = row; name = name; cells = k.cell; values = k.number })
-    found = row-found s r enough _ k.marked
+    found = row_found s r enough _ k.marked
 
-    name-held : NameHeld text rows row name
-    name-held =
+    name_held : NameHeld text rows row name
+    name_held =
         record {
           place = ap (λ (n : ℕ). get_or rows n 0) (add-zero (4 * row)) ∙ found.place;
           size = found.size;
-          in-text = (names_stand s).holds _ k.marked;
+          in_text = (names_stand s).holds _ k.marked;
         }
 
     -- its cells stand in the index table from its third number on, its values in the value table from its fourth
-    cells_at : StandsAt index (rowCell rows row 2) cs
-    cells_at = subst (λ (n : ℕ). StandsAt index n cs) (sym found.cell) (index-stands i tree k.cells-stand)
+    cells_at : StandsAt index (row_cell rows row 2) cs
+    cells_at = subst (λ (n : ℕ). StandsAt index n cs) (sym found.cell) (index_stands i tree k.cells_stand)
 
-    values-at : StandsAt values (2 * rowCell rows row 3) (byTurns vs)
-    values-at = subst (λ (n : ℕ). StandsAt values (2 * n) (byTurns vs)) (sym found.number) (values-stand v tree k.values-stand)
+    values-at : StandsAt values (2 * row_cell rows row 3) (by_turns vs)
+    values-at = subst (λ (n : ℕ). StandsAt values (2 * n) (by_turns vs)) (sym found.number) (values_stand v tree k.values_stand)
 
-  value-here : (at : ℕ) (f : Fraction) (fs : List Fraction) → StandsAt values (2 * at) (byTurns (f ∷ fs)) → value_at values at ≡ f
+  value-here : (at : ℕ) (f : Fraction) (fs : List Fraction) → StandsAt values (2 * at) (by_turns (f ∷ fs)) → value_at values at ≡ f
   value-here at f fs h =
-      ap₂ {A = ℤ} {B = ℤ} {C = Fraction} (λ n d. record { num = n; den = d }) (stands_here h (pos 0)) (stands_here (stands-next h) (pos 0))
+      ap₂ {A = ℤ} {B = ℤ} {C = Fraction} (λ n d. record { num = n; den = d }) (stands_here h (pos 0)) (stands_here (stands_next h) (pos 0))
 
-  pub row-held : (before : List Row) (x : Row) (after : List Row) → rows_of tree ≡ before ++ (x ∷ after) → RowHeld text index values rows (length before) x
-  row-held before x after e =
-      let k = row_kept (tree-in-range s) before x after e in
-      record { name = name-held k; sense = stands_here (cells_at k) 0; right = value-here _ x.right (sideValues x.side) (values-at k) }
+  pub row_held : (before : List Row) (x : Row) (after : List Row) → rows_of tree ≡ before ++ (x ∷ after) → RowHeld text index values rows (length before) x
+  row_held before x after e =
+      let k = row_kept (tree_in_range s) before x after e in
+      record { name = name_held k; sense = stands_here (cells_at k) 0; right = value-here _ x.right (side_values x.side) (values-at k) }
 
-  pub solution-held : (before : List Solution) (x : Solution) (after : List Solution) → tree.solutions.solutions ≡ before ++ (x ∷ after)
+  pub solution_held : (before : List Solution) (x : Solution) (after : List Solution) → tree.solutions.solutions ≡ before ++ (x ∷ after)
       → SolutionHeld text index values rows (length before) x
-  solution-held before x after e =
+  solution_held before x after e =
       let k = solution-kept tree before x after e in
-      record { name = name-held k; count = stands_here (cells_at k) 0; own = stands-slice (values-at k) }
+      record { name = name_held k; count = stands_here (cells_at k) 0; own = stands_slice (values-at k) }

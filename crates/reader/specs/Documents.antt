@@ -3,18 +3,18 @@
 use Rattle.std.specs.Prelude.{◌≡◌, List, ℕ, ◌+◌, ℤ}
 use Rattle.std.proofs.lemmas.List.Edits.{sets}
 use Rattle.text.specs.Bytes.{Bytes}
-use Rattle.text.specs.Comments.{commentsEnd}
+use Rattle.text.specs.Comments.{comments_end}
 use Rattle.text.specs.Tokens.{Stream, end, token, rest}
 use Rattle.tables.specs.declared.Header.{Header}
 use Rattle.grammar.specs.Tree.{Tree, Constraints, Relation, Solutions, Derivations}
 use Rattle.grammar.specs.Format.{Format, then}
-use Rattle.grammar.specs.Certificate.{relation, solutionSection, derivationSection, certificate}
-use Rattle.grammar.specs.Header.{headerOf}
+use Rattle.grammar.specs.Certificate.{relation, solution_section, derivation_section, certificate}
+use Rattle.grammar.specs.Header.{header_of}
 use Rattle.grammar.specs.Layout.{cells, marks}
 use Rattle.grammar.specs.Layout as L
-use Rattle.grammar.specs.Tables.{byTurns, laid}
+use Rattle.grammar.specs.Tables.{by_turns, laid}
 use Rattle.grammar.specs.Texts.{taken, refused, read_of}
-use Rattle.grammar.specs.Refusals.{refusalNumber}
+use Rattle.grammar.specs.Refusals.{refusal_number}
 use Rattle.grammar.specs.declared.Refusal.TheVariants.{TokenLeft}
 use Rattle.symbol_reader.specs.Steps.{State}
 use Rattle.symbol_reader.specs.declared.Cursor.{Cursor}
@@ -24,13 +24,13 @@ use Rattle.reader.specs.declared.documents.Proof.{Proof}
 
 -- after the comments nothing is written yet
 abbrev pub start_of : Bytes → Cursor
-start_of text = record { at = commentsEnd text; cells = 0; values = 0 }
+start_of text = record { at = comments_end text; cells = 0; values = 0 }
 
 -- ---- from RTP on
 
 -- the grammar after the constraints k
-abbrev pub proofPart : ℕ → Constraints → Format ((r : Relation) × ((s : Solutions) × Derivations))
-proofPart n k = then relation (λ r. then (solutionSection n) (λ s. derivationSection n k))
+abbrev pub proof_part : ℕ → Constraints → Format ((r : Relation) × ((s : Solutions) × Derivations))
+proof_part n k = then relation (λ r. then (solution_section n) (λ s. derivation_section n k))
 
 -- what reading it hands back: the places of `RTP` and `DER`, and how many solutions and rows there are
 pub record SaysProof (k : Constraints) (a : (r : Relation) × ((s : Solutions) × Derivations)) (p : Proof) : Type 0 where
@@ -42,26 +42,26 @@ pub record SaysProof (k : Constraints) (a : (r : Relation) × ((s : Solutions) �
 -- ---- to the end
 
 -- "8 text goes on after the last derivation"
-abbrev pub unlessLeft : Step → Stream → Step
-unlessLeft s (end size) = s
-unlessLeft s (token place bytes o) = Stop TokenLeft place
+abbrev pub unless_left : Step → Stream → Step
+unless_left s (end size) = s
+unless_left s (token place bytes o) = Stop TokenLeft place
 
 abbrev pub end_of : Bytes → Step → Step
-end_of text (Next n c) = unlessLeft (Next n c) (rest text c.at)
+end_of text (Next n c) = unless_left (Next n c) (rest text c.at)
 end_of text (Stop q p) = Stop q p
 
 -- a text was read to its end, and the tree that was kept is written into the tables
 pub record Written (text : Bytes) (header : Header) (s : State) (index : List ℕ) (values : List ℤ) (rows : List ℕ) : Type 0 where
   pub tree : Tree
   pub reads : read_of text ≡ taken tree
-  pub header_is : header ≡ headerOf tree
+  pub header_is : header ≡ header_of tree
   pub index_is : index ≡ sets s.index 0 (cells certificate tree)
-  pub values-is : values ≡ sets s.values 0 (byTurns (L.values certificate tree))
+  pub values_is : values ≡ sets s.values 0 (by_turns (L.values certificate tree))
   pub rows_is : rows ≡ laid s.rows (marks certificate tree 0 0)
 
 abbrev pub AnswersToEnd : Bytes → Header → State → List ℕ → List ℤ → List ℕ → Step → Type 0
 AnswersToEnd text header s index values rows (Next n c) = Written text header s index values rows
-AnswersToEnd text header s index values rows (Stop q p) = read_of text ≡ refused (refusalNumber q) p
+AnswersToEnd text header s index values rows (Stop q p) = read_of text ≡ refused (refusal_number q) p
 
 -- the answer of reading a text to its end
 pub record ReadsToEnd (text : Bytes) (header : Header) (s : State) (index : List ℕ) (values : List ℤ) (rows : List ℕ) (r : Step) : Type 0 where

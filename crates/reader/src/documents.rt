@@ -1,17 +1,17 @@
 // The whole of a certificate: its sections in order, and then the end of the text.
 ghost use Rattle.std.specs.Prelude.{◌≡◌, ◌*◌, ◌≤◌};
 ghost use Rattle.std.proofs.Math.Seq.{slice};
-ghost use Rattle.tables.specs.Limits.{mostVariables, mostRows};
-ghost use Rattle.grammar.specs.Certificate.{rowNames, certificate};
-ghost use Rattle.grammar.specs.Header.{headerOf};
+ghost use Rattle.tables.specs.Limits.{most_variables, most_rows};
+ghost use Rattle.grammar.specs.Certificate.{row_names, certificate};
+ghost use Rattle.grammar.specs.Header.{header_of};
 ghost use Rattle.grammar.specs.Tree.{Constraints};
 ghost use Rattle.symbol_reader.specs.Steps.{state, Room, Reads};
 ghost use Rattle.symbol_reader.specs.Follows.{Follows};
-ghost use Rattle.symbol_reader.specs.Leaves.{namesIn};
+ghost use Rattle.symbol_reader.specs.Leaves.{names_in};
 ghost use Rattle.symbol_reader.specs.Marks.{Fingerprinted};
 ghost use Rattle.symbol_reader.specs.declared.Step.TheVariants.{Next};
 ghost use Rattle.section_reader.specs.Sections.{Where};
-ghost use Rattle.reader.specs.Documents.{start_of, proofPart, SaysProof, end_of};
+ghost use Rattle.reader.specs.Documents.{start_of, proof_part, SaysProof, end_of};
 
 use grammar::Refusal;
 use section_reader::{answers, problem, proof};
@@ -41,8 +41,8 @@ pub(crate) fn read_proof(
     rows: &mut [u16],
     prints: &mut [u64],
 ) -> Proof
-    requires { m ≤ mostRows }
-    ensures { (k : Constraints) → n ≤ mostVariables → k.count ≡ m → Follows (Where ((namesIn text.now (slice 0 (4 * m) rows.old) ≡ rowNames k.rows) × Fingerprinted (rowNames k.rows) prints.old)) (λ _. proofPart n k) (λ a i. SaysProof k a result) text.now s index.old values.old rows.old index.new values.new rows.new result.answer }
+    requires { m ≤ most_rows }
+    ensures { (k : Constraints) → n ≤ most_variables → k.count ≡ m → Follows (Where ((names_in text.now (slice 0 (4 * m) rows.old) ≡ row_names k.rows) × Fingerprinted (row_names k.rows) prints.old)) (λ _. proof_part n k) (λ a i. SaysProof k a result) text.now s index.old values.old rows.old index.new values.new rows.new result.answer }
 {
     let relation = proof::read_relation(text, s, index, values);
     let solutions = proof::read_solutions(text, relation, n, index, values, rows);
@@ -87,7 +87,7 @@ pub(crate) fn read_document(
     values: &mut [i32],
     rows: &mut [u16],
 ) -> Document
-    ensures { Room text.now (state (start_of text.now) index.old values.old rows.old) → Reads certificate (λ t i. result.header ≡ headerOf t) text.now (state (start_of text.now) index.old values.old rows.old) index.new values.new rows.new result.answer }
+    ensures { Room text.now (state (start_of text.now) index.old values.old rows.old) → Reads certificate (λ t i. result.header ≡ header_of t) text.now (state (start_of text.now) index.old values.old rows.old) index.new values.new rows.new result.answer }
 {
     let mut prints = [0u64; symbol_reader::names::PRINT_WORDS];
     let s = problem::read_version(text, start(text));

@@ -8,5 +8,5 @@ use Rattle.grammar.specs.Certificate.{Pair}
 abbrev pub indices : List Pair → List ℕ
 indices ps = map (λ (p : Pair). p.index) ps
 
-pub indices-more : (ps : List Pair) (p : Pair) → indices (ps ++ (p ∷ [])) ≡ indices ps ++ (p.index ∷ [])
-indices-more ps p = map-append (λ (p : Pair). p.index) ps (p ∷ [])
+pub indices_more : (ps : List Pair) (p : Pair) → indices (ps ++ (p ∷ [])) ≡ indices ps ++ (p.index ∷ [])
+indices_more ps p = map-append (λ (p : Pair). p.index) ps (p ∷ [])

@@ -2,13 +2,13 @@
 ghost use Rattle.std.specs.Prelude.{◌≡◌, true, cond, List, [], ◌∷◌, ◌++◌, eqb, ℤ, ℕ, ◌+◌, ◌-◌, ◌*◌, ◌≤◌, ◌<◌, ◌^◌};
 ghost use Rattle.std.proofs.Math.Seq.{slice};
 ghost use Rattle.grammar.specs.Format.{items};
-ghost use Rattle.grammar.specs.Certificate.{ReasonWord, reasonCell, detail, unsplit, reason, derivation};
+ghost use Rattle.grammar.specs.Certificate.{ReasonWord, reason_cell, detail, unsplit, reason, derivation};
 ghost use Rattle.symbol_reader.specs.Steps.{any, the};
 ghost use Rattle.symbol_reader.specs.Follows.{Always, Follows, Tells};
-ghost use Rattle.symbol_reader.specs.Leaves.{namesIn};
+ghost use Rattle.symbol_reader.specs.Leaves.{names_in};
 ghost use Rattle.symbol_reader.specs.Marks.{Fingerprinted};
-ghost use Rattle.row_reader.specs.Parts.{justification, derivationBut, wordCell};
-ghost use Rattle.tables.specs.Limits.{mostVariables, mostRows};
+ghost use Rattle.row_reader.specs.Parts.{justification, derivation_but, word_cell};
+ghost use Rattle.tables.specs.Limits.{most_variables, most_rows};
 ghost use Rattle.tables.specs.Words.{asm};
 
 use crate::{lists, rows};
@@ -18,7 +18,7 @@ use tables::limits;
 
 // i1 l1 i2 l2 are due, each below `own`.
 fn read_unsplit(text: &[u8], s: Step, own: usize, index: &mut [u16]) -> Step
-    ensures { (vs : List ℤ) (rs : List ℕ) → own ≤ mostRows → Follows Always (λ _. unsplit own) any text.now s index.old vs rs index.new vs rs result }
+    ensures { (vs : List ℤ) (rs : List ℕ) → own ≤ most_rows → Follows Always (λ _. unsplit own) any text.now s index.old vs rs index.new vs rs result }
 {
     let s = numbers::read_index(text, s, own, index);
     let s = numbers::read_index(text, s, own, index);
@@ -28,7 +28,7 @@ fn read_unsplit(text: &[u8], s: Step, own: usize, index: &mut [u16]) -> Step
 
 // What follows a reason's word is due; the answer's number is the word's cell.
 fn read_detail(text: &[u8], s: Step, own: usize, index: &mut [u16], values: &mut [i32]) -> Step
-    ensures { (w : ReasonWord) (rs : List ℕ) → own ≤ mostRows → Tells (the reasonCell) w s → Follows Always (λ _. detail own w) any text.now s index.old values.old rs index.new values.new rs result }
+    ensures { (w : ReasonWord) (rs : List ℕ) → own ≤ most_rows → Tells (the reason_cell) w s → Follows Always (λ _. detail own w) any text.now s index.old values.old rs index.new values.new rs result }
 {
     let Step::Next(word, _) = s else {
         return s;
@@ -54,7 +54,7 @@ fn read_reason(
     index: &mut [u16],
     values: &mut [i32],
 ) -> Step
-    ensures { (rs : List ℕ) → own ≤ mostRows → Follows Always (λ _. reason own assumed) (the wordCell) text.now s index.old values.old rs index.new values.new rs result }
+    ensures { (rs : List ℕ) → own ≤ most_rows → Follows Always (λ _. reason own assumed) (the word_cell) text.now s index.old values.old rs index.new values.new rs result }
 {
     let word = words::read_reason_word(text, s, assumed, index);
     let s = read_detail(text, word, own, index, values);
@@ -71,7 +71,7 @@ fn read_justification(
     index: &mut [u16],
     values: &mut [i32],
 ) -> Step
-    ensures { (rs : List ℕ) → own ≤ mostRows → total ≤ mostRows → Follows Always (λ _. justification own total assumed) (the (λ j. wordCell j.1.0)) text.now s index.old values.old rs index.new values.new rs result }
+    ensures { (rs : List ℕ) → own ≤ most_rows → total ≤ most_rows → Follows Always (λ _. justification own total assumed) (the (λ j. word_cell j.1.0)) text.now s index.old values.old rs index.new values.new rs result }
 {
     let s = words::read_word(text, s, b"{");
     let word = read_reason(text, s, own, assumed, index, values);
@@ -94,7 +94,7 @@ fn read_derivation(
     rows: &mut [u16],
     prints: &mut [u64],
 ) -> Step
-    ensures { n ≤ mostVariables → own < mostRows → total ≤ mostRows → Fingerprinted (namesIn text.now (slice 0 (4 * own) rows.old)) prints.old → Follows Always (λ _. derivationBut n own total assumed (namesIn text.now (slice 0 (4 * own) rows.old))) (λ d k. (wordCell d.reason ≡ k) × Fingerprinted (namesIn text.now (slice 0 (4 * own) rows.old) ++ (d.row.name.bytes ∷ [])) prints.new) text.now s index.old values.old rows.old index.new values.new rows.new result }
+    ensures { n ≤ most_variables → own < most_rows → total ≤ most_rows → Fingerprinted (names_in text.now (slice 0 (4 * own) rows.old)) prints.old → Follows Always (λ _. derivation_but n own total assumed (names_in text.now (slice 0 (4 * own) rows.old))) (λ d k. (word_cell d.reason ≡ k) × Fingerprinted (names_in text.now (slice 0 (4 * own) rows.old) ++ (d.row.name.bytes ∷ [])) prints.new) text.now s index.old values.old rows.old index.new values.new rows.new result }
 {
     let s = rows::read_row(text, s, n, own, index, values, rows, prints);
     read_justification(text, s, own, total, assumed, index, values)
@@ -102,8 +102,8 @@ fn read_derivation(
 
 // So many rows after m others are at most as many as a certificate may have.
 fn has_rows(m: usize, count: usize) -> bool
-    ensures count_bound { result ≡ true → m + count ≤ mostRows }
-    ensures value { m + count ≤ mostRows → result ≡ true }
+    ensures count_bound { result ≡ true → m + count ≤ most_rows }
+    ensures value { m + count ≤ most_rows → result ≡ true }
 {
     if limits::ROWS < m {
         return false;
@@ -134,7 +134,7 @@ pub fn read_derivations(
     rows: &mut [u16],
     prints: &mut [u64],
 ) -> Step
-    ensures { n ≤ mostVariables → m ≤ mostRows → Follows (λ d _. (d ≤ mostRows - m) × Fingerprinted (namesIn text.now (slice 0 (4 * m) rows.old)) prints.old) (λ d. items d (derivation n m (namesIn text.now (slice 0 (4 * m) rows.old)) d)) any text.now s index.old values.old rows.old index.new values.new rows.new result }
+    ensures { n ≤ most_variables → m ≤ most_rows → Follows (λ d _. (d ≤ most_rows - m) × Fingerprinted (names_in text.now (slice 0 (4 * m) rows.old)) prints.old) (λ d. items d (derivation n m (names_in text.now (slice 0 (4 * m) rows.old)) d)) any text.now s index.old values.old rows.old index.new values.new rows.new result }
 {
     let Step::Next(count, c) = s else {
         return s;

@@ -1,12 +1,12 @@
 // Lists of pairs of an index and a value: the terms of a row, of the objective and of a solution, and the multipliers of a reason.
 ghost use Rattle.std.specs.Prelude.{◌≡◌, List, [], ◌∷◌, ◌++◌, length, ℕ, ◌*◌, ◌≤◌};
 ghost use Rattle.grammar.specs.Format.{items};
-ghost use Rattle.grammar.specs.Certificate.{pair, pairList};
+ghost use Rattle.grammar.specs.Certificate.{pair, pair_list};
 ghost use Rattle.symbol_reader.specs.Steps.{any};
 ghost use Rattle.symbol_reader.specs.Follows.{Always, Follows};
 ghost use Rattle.symbol_reader.specs.Marks.{Marks};
-ghost use Rattle.row_reader.specs.Parts.{pairBut};
-ghost use Rattle.tables.specs.Limits.{largest, mostRows};
+ghost use Rattle.row_reader.specs.Parts.{pair_but};
+ghost use Rattle.tables.specs.Limits.{largest, most_rows};
 
 use symbol_reader::{Cursor, Step, numbers};
 
@@ -19,7 +19,7 @@ fn read_pair(
     index: &mut [u16],
     values: &mut [i32],
 ) -> Step
-    ensures by_index { (used : List ℕ) (rs : List ℕ) → bound ≤ largest → bound ≤ 64 * length seen.old → Marks used seen.old → Follows Always (λ _. pairBut bound used) (λ p n. Marks (used ++ (p.index ∷ [])) seen.new) text.now s index.old values.old rs index.new values.new rs result }
+    ensures by_index { (used : List ℕ) (rs : List ℕ) → bound ≤ largest → bound ≤ 64 * length seen.old → Marks used seen.old → Follows Always (λ _. pair_but bound used) (λ p n. Marks (used ++ (p.index ∷ [])) seen.new) text.now s index.old values.old rs index.new values.new rs result }
     ensures seen_len_unchanged { length seen.new ≡ length seen.old }
 {
     let s = numbers::read_new_index(text, s, bound, seen, index);
@@ -28,7 +28,7 @@ fn read_pair(
 
 // As many pairs are due as the answer's number says, with distinct indices below the bound.
 pub fn read_pairs(text: &[u8], s: Step, bound: usize, index: &mut [u16], values: &mut [i32]) -> Step
-    ensures { (rs : List ℕ) → bound ≤ mostRows → Follows Always (λ k. items k (pair bound)) any text.now s index.old values.old rs index.new values.new rs result }
+    ensures { (rs : List ℕ) → bound ≤ most_rows → Follows Always (λ k. items k (pair bound)) any text.now s index.old values.old rs index.new values.new rs result }
 {
     let Step::Next(count, c) = s else {
         return s;
@@ -60,7 +60,7 @@ pub fn read_pair_list(
     index: &mut [u16],
     values: &mut [i32],
 ) -> Step
-    ensures { (rs : List ℕ) → bound ≤ mostRows → Follows Always (λ _. pairList bound) any text.now s index.old values.old rs index.new values.new rs result }
+    ensures { (rs : List ℕ) → bound ≤ most_rows → Follows Always (λ _. pair_list bound) any text.now s index.old values.old rs index.new values.new rs result }
 {
     let s = numbers::read_count(text, s, bound, index);
     read_pairs(text, s, bound, index, values)

@@ -2,13 +2,13 @@
 ghost use Rattle.std.specs.Prelude.{◌≡◌, List, [], ◌∷◌, ◌++◌, length, ℕ, suc, ◌*◌, ◌≤◌, ◌<◌};
 ghost use Rattle.std.proofs.Math.Seq.{slice};
 ghost use Rattle.grammar.specs.Format.{Or, items};
-ghost use Rattle.grammar.specs.Certificate.{listedTerms, side, row, rowNames};
+ghost use Rattle.grammar.specs.Certificate.{listed_terms, side, row, row_names};
 ghost use Rattle.symbol_reader.specs.Steps.{any};
-ghost use Rattle.symbol_reader.specs.Follows.{Always, Follows, cellOr, Tells};
-ghost use Rattle.symbol_reader.specs.Leaves.{namesIn};
-ghost use Rattle.symbol_reader.specs.Marks.{Fingerprinted, printWords};
-ghost use Rattle.row_reader.specs.Parts.{rowBody};
-ghost use Rattle.tables.specs.Limits.{mostVariables, mostRows};
+ghost use Rattle.symbol_reader.specs.Follows.{Always, Follows, cell_or, Tells};
+ghost use Rattle.symbol_reader.specs.Leaves.{names_in};
+ghost use Rattle.symbol_reader.specs.Marks.{Fingerprinted, print_words};
+ghost use Rattle.row_reader.specs.Parts.{row_body};
+ghost use Rattle.tables.specs.Limits.{most_variables, most_rows};
 ghost use Rattle.tables.specs.Words.{OBJ};
 
 use crate::lists;
@@ -16,7 +16,7 @@ use symbol_reader::{Step, names, numbers, values, words};
 
 // What follows the count of terms, or the word `OBJ`, is due: the number of the answer tells which.
 fn read_listed(text: &[u8], s: Step, n: usize, index: &mut [u16], values: &mut [i32]) -> Step
-    ensures { (k : Or ℕ) (rs : List ℕ) → n ≤ mostVariables → Tells (cellOr OBJ (suc n)) k s → Follows Always (λ _. listedTerms n k) any text.now s index.old values.old rs index.new values.new rs result }
+    ensures { (k : Or ℕ) (rs : List ℕ) → n ≤ most_variables → Tells (cell_or OBJ (suc n)) k s → Follows Always (λ _. listed_terms n k) any text.now s index.old values.old rs index.new values.new rs result }
 {
     let Step::Next(k, _) = s else {
         return s;
@@ -29,7 +29,7 @@ fn read_listed(text: &[u8], s: Step, n: usize, index: &mut [u16], values: &mut [
 
 // A row's left side is due: `OBJ`, or a count and that many terms.
 fn read_side(text: &[u8], s: Step, n: usize, index: &mut [u16], values: &mut [i32]) -> Step
-    ensures { (rs : List ℕ) → n ≤ mostVariables → Follows Always (λ _. side n) any text.now s index.old values.old rs index.new values.new rs result }
+    ensures { (rs : List ℕ) → n ≤ most_variables → Follows Always (λ _. side n) any text.now s index.old values.old rs index.new values.new rs result }
 {
     let s = numbers::read_index_or(
         text,
@@ -44,7 +44,7 @@ fn read_side(text: &[u8], s: Step, n: usize, index: &mut [u16], values: &mut [i3
 
 // What follows a row's name is due.
 fn read_row_body(text: &[u8], s: Step, n: usize, index: &mut [u16], values: &mut [i32]) -> Step
-    ensures { (rs : List ℕ) → n ≤ mostVariables → Follows Always (λ _. rowBody n) any text.now s index.old values.old rs index.new values.new rs result }
+    ensures { (rs : List ℕ) → n ≤ most_variables → Follows Always (λ _. row_body n) any text.now s index.old values.old rs index.new values.new rs result }
 {
     let s = words::read_sense(text, s, index);
     let s = values::read_value(text, s, values);
@@ -63,7 +63,7 @@ pub(crate) fn read_row(
     rows: &mut [u16],
     prints: &mut [u64],
 ) -> Step
-    ensures { n ≤ mostVariables → own < mostRows → Fingerprinted (namesIn text.now (slice 0 (4 * own) rows.old)) prints.old → Follows Always (λ _. row n own (namesIn text.now (slice 0 (4 * own) rows.old))) (λ a k. Fingerprinted (namesIn text.now (slice 0 (4 * own) rows.old) ++ (a.name.bytes ∷ [])) prints.new) text.now s index.old values.old rows.old index.new values.new rows.new result }
+    ensures { n ≤ most_variables → own < most_rows → Fingerprinted (names_in text.now (slice 0 (4 * own) rows.old)) prints.old → Follows Always (λ _. row n own (names_in text.now (slice 0 (4 * own) rows.old))) (λ a k. Fingerprinted (names_in text.now (slice 0 (4 * own) rows.old) ++ (a.name.bytes ∷ [])) prints.new) text.now s index.old values.old rows.old index.new values.new rows.new result }
 {
     let s = names::read_row_name(text, s, own, rows, prints);
     read_row_body(text, s, n, index, values)
@@ -80,7 +80,7 @@ pub fn read_rows(
     rows: &mut [u16],
     prints: &mut [u64],
 ) -> Step
-    ensures { n ≤ mostVariables → count ≤ mostRows → length prints.old ≡ printWords → Follows Always (λ _. items count (λ before. row n (length before) (rowNames before))) (λ a k. Fingerprinted (rowNames a) prints.new) text.now s index.old values.old rows.old index.new values.new rows.new result }
+    ensures { n ≤ most_variables → count ≤ most_rows → length prints.old ≡ print_words → Follows Always (λ _. items count (λ before. row n (length before) (row_names before))) (λ a k. Fingerprinted (row_names a) prints.new) text.now s index.old values.old rows.old index.new values.new rows.new result }
 {
     let Step::Next(_, c) = s else {
         return s;

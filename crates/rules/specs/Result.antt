@@ -39,9 +39,9 @@ abbrev pub each : {A : Type 0} → (A → Verdict) → List A → Verdict
 each check [] = fine
 each check (x ∷ xs) = check x and_then each check xs
 
-abbrev pub eachFrom : {A : Type 0} → (ℕ → A → Verdict) → ℕ → List A → Verdict
-eachFrom check k [] = fine
-eachFrom check k (x ∷ xs) = check k x and_then eachFrom check (suc k) xs
+abbrev pub each_from : {A : Type 0} → (ℕ → A → Verdict) → ℕ → List A → Verdict
+each_from check k [] = fine
+each_from check k (x ∷ xs) = check k x and_then each_from check (suc k) xs
 
 -- a state that goes through a list, in order
 abbrev pub through : {A S : Type 0} → (S → A → Result S) → S → List A → Result S
@@ -85,14 +85,14 @@ Each R (x ∷ xs) (y ∷ ys) = R x y × Each R xs ys
 pub no_value : {A X : Type 0} {reason place : ℕ} {a : A} → refused reason place ≡ done a → X
 no_value e = absurd (let z : ◌≡◌ {A = ℕ} 0 1 = cc in omega arith)
 
-pub done-same : {A : Type 0} {a b : A} → done a ≡ done b → a ≡ b
-done-same e = cc
+pub done_same : {A : Type 0} {a b : A} → done a ≡ done b → a ≡ b
+done_same e = cc
 
 pub says-fine : Says fine (Unit {0})
 says-fine = ((λ e. tt), λ u. refl)
 
-pub says-as : {P Q : Type 0} {v : Verdict} → (P → Q) → (Q → P) → Says v P → Says v Q
-says-as f g s = ((λ e. f (s.0 e)), λ q. s.1 (g q))
+pub says_as : {P Q : Type 0} {v : Verdict} → (P → Q) → (Q → P) → Says v P → Says v Q
+says_as f g s = ((λ e. f (s.0 e)), λ q. s.1 (g q))
 
 pub says-require : {P : Type 0} (test : Bool) (reason place : ℕ) → Decides test P → Says (require test reason place) P
 says-require true reason place d = ((λ e. d.0 refl), λ p. refl)
@@ -109,51 +109,51 @@ says-bind {A} {P} {Q} (done a) next g s =
     ((λ e. (a, (g a).0 refl, (s a ((g a).0 refl)).0 e)), λ h. go h.0 ((g h.0).1 h.1) h.1 h.2)
   where
     go : (b : A) → done a ≡ done b → P b → Q b → next a ≡ fine
-    go b e p q = ap next (done-same e) ∙ (s b p).1 q
+    go b e p q = ap next (done_same e) ∙ (s b p).1 q
 says-bind (refused reason place) next g s = ((λ e. no_value e), λ h. no_value ((g h.0).1 h.1))
 
 pub says-each : {A : Type 0} (check : A → Verdict) (P : A → Type 0) → ((x : A) → Says (check x) (P x)) → (xs : List A) → Says (each check xs) (All P xs)
 says-each check P s [] = says-fine
 says-each check P s (x ∷ xs) = says_then (check x) (each check xs) (s x) (says-each check P s xs)
 
-pub says-each-from : {A : Type 0} (check : ℕ → A → Verdict) (P : ℕ → A → Type 0) → ((k : ℕ) (x : A) → Says (check k x) (P k x))
-    → (k : ℕ) (xs : List A) → Says (eachFrom check k xs) (AllFrom P k xs)
-says-each-from check P s k [] = says-fine
-says-each-from check P s k (x ∷ xs) = says_then (check k x) (eachFrom check (suc k) xs) (s k x) (says-each-from check P s (suc k) xs)
+pub says-each_from : {A : Type 0} (check : ℕ → A → Verdict) (P : ℕ → A → Type 0) → ((k : ℕ) (x : A) → Says (check k x) (P k x))
+    → (k : ℕ) (xs : List A) → Says (each_from check k xs) (AllFrom P k xs)
+says-each_from check P s k [] = says-fine
+says-each_from check P s k (x ∷ xs) = says_then (check k x) (each_from check (suc k) xs) (s k x) (says-each_from check P s (suc k) xs)
 
 pub gives_as : {A : Type 0} {P Q : A → Type 0} {r : Result A} → ((a : A) → P a → Q a) → ((a : A) → Q a → P a) → Gives r P → Gives r Q
 gives_as f g s a = ((λ e. f a ((s a).0 e)), λ q. (s a).1 (g a q))
 
-pub gives-done : {A : Type 0} (a : A) → Gives (done a) (λ b. a ≡ b)
-gives-done a b = (done-same, λ e. ap done e)
+pub gives_done : {A : Type 0} (a : A) → Gives (done a) (λ b. a ≡ b)
+gives_done a b = (done_same, λ e. ap done e)
 
 -- where a test comes first
 pub gives_then : {A : Type 0} {P : Type 0} {Q : A → Type 0} (v : Verdict) (r : Result A) → Says v P → Gives r Q → Gives (v and_then r) (λ a. P × Q a)
 gives_then (done u) r s g a = ((λ e. (s.0 refl, (g a).0 e)), λ h. (g a).1 h.1)
 gives_then (refused reason place) r s g a = ((λ e. no_value e), λ h. no_value (s.1 h.0))
 
-pub gives-bind : {A B : Type 0} {P : A → Type 0} {Q : A → B → Type 0} (r : Result A) (next : A → Result B)
+pub gives_bind : {A B : Type 0} {P : A → Type 0} {Q : A → B → Type 0} (r : Result A) (next : A → Result B)
     → Gives r P → ((a : A) → Gives (next a) (Q a)) → Gives (bind r next) (λ b. (a : A) × P a × Q a b)
-gives-bind {A} {B} {P} {Q} (done a) next g s b =
+gives_bind {A} {B} {P} {Q} (done a) next g s b =
     ((λ e. (a, (g a).0 refl, (s a b).0 e)), λ h. go h.0 ((g h.0).1 h.1) h.2)
   where
     go : (c : A) → done a ≡ done c → Q c b → next a ≡ done b
-    go c e q = ap next (done-same e) ∙ (s c b).1 q
-gives-bind (refused reason place) next g s b = ((λ e. no_value e), λ h. no_value ((g h.0).1 h.1))
+    go c e q = ap next (done_same e) ∙ (s c b).1 q
+gives_bind (refused reason place) next g s b = ((λ e. no_value e), λ h. no_value ((g h.0).1 h.1))
 
-pub gives-through : {A S : Type 0} (step : S → A → Result S) (Step : S → A → S → Type 0) → ((s : S) (x : A) → Gives (step s x) (Step s x))
+pub gives_through : {A S : Type 0} (step : S → A → Result S) (Step : S → A → S → Type 0) → ((s : S) (x : A) → Gives (step s x) (Step s x))
     → (s : S) (xs : List A) → Gives (through step s xs) (Through Step s xs)
-gives-through step Step g s [] = gives-done s
-gives-through step Step g s (x ∷ xs) = gives-bind (step s x) (λ next. through step next xs) (g s x) (λ next. gives-through step Step g next xs)
+gives_through step Step g s [] = gives_done s
+gives_through step Step g s (x ∷ xs) = gives_bind (step s x) (λ next. through step next xs) (g s x) (λ next. gives_through step Step g next xs)
 
-pub gives-collect : {A B : Type 0} (f : A → Result B) (R : A → B → Type 0) → ((x : A) → Gives (f x) (R x)) → (xs : List A) → Gives (collect f xs) (Each R xs)
-gives-collect {A} {B} f R g [] = none
+pub gives_collect : {A B : Type 0} (f : A → Result B) (R : A → B → Type 0) → ((x : A) → Gives (f x) (R x)) → (xs : List A) → Gives (collect f xs) (Each R xs)
+gives_collect {A} {B} f R g [] = none
   where
     none : Gives (done []) (Each R [])
     none [] = ((λ e. tt), λ u. refl)
     none (y ∷ ys) = ((λ e. absurd (let z : ◌≡◌ {A = ℕ} 0 1 = cc in omega arith)), λ u. absurd u)
-gives-collect {A} {B} f R g (x ∷ xs) =
-    gives_as to from (gives-bind (f x) _ (g x) (λ y. gives-bind (collect f xs) _ (gives-collect f R g xs) (λ ys. gives-done (y ∷ ys))))
+gives_collect {A} {B} f R g (x ∷ xs) =
+    gives_as to from (gives_bind (f x) _ (g x) (λ y. gives_bind (collect f xs) _ (gives_collect f R g xs) (λ ys. gives_done (y ∷ ys))))
   where
     to : (ys : List B) → (y : B) × R x y × ((zs : List B) × Each R xs zs × (y ∷ zs ≡ ys)) → Each R (x ∷ xs) ys
     to ys h = subst (Each R (x ∷ xs)) h.2.2 (h.1, h.2.1)

@@ -8,24 +8,24 @@ use Rattle.std.proofs.Math.ListN.{get_or, get_or-append, get_or-eq_default, get_
 use Rattle.std.proofs.lemmas.List.{length-map}
 use Rattle.std.proofs.Math.Seq.{get_or-append-add, get_or_at}
 use Rattle.grammar.specs.Tree.{Sense, equal, at_most, at_least, Row, Derivation, Tree}
-use Rattle.grammar.specs.Certificate.{senseCell}
-use Rattle.rules.specs.Tests.{Decides, decides-as, decides-equal}
-use Rattle.rules.specs.Rows.{sameSense, Entry, givenRow, derivedRow, no_row, entries, entry_at}
+use Rattle.grammar.specs.Certificate.{sense_cell}
+use Rattle.rules.specs.Tests.{Decides, decides_as, decides_equal}
+use Rattle.rules.specs.Rows.{same_sense, Entry, given_row, derived_row, no_row, entries, entry_at}
 
-ofCell : ℕ → Sense
-ofCell zero = equal
-ofCell (suc zero) = at_most
-ofCell (suc (suc n)) = at_least
+of_cell : ℕ → Sense
+of_cell zero = equal
+of_cell (suc zero) = at_most
+of_cell (suc (suc n)) = at_least
 
-cell-back : (s : Sense) → ofCell (senseCell s) ≡ s
-unfolding ofCell
-cell-back equal = refl
-cell-back at_most = refl
-cell-back at_least = refl
+cell_back : (s : Sense) → of_cell (sense_cell s) ≡ s
+unfolding of_cell
+cell_back equal = refl
+cell_back at_most = refl
+cell_back at_least = refl
 
-pub decides-sense : (s t : Sense) → Decides (sameSense s t) (s ≡ t)
-decides-sense s t =
-    decides-as (λ e. sym (cell-back s) ∙ ap ofCell e ∙ cell-back t) (ap senseCell) (decides-equal (senseCell s) (senseCell t))
+pub decides_sense : (s t : Sense) → Decides (same_sense s t) (s ≡ t)
+decides_sense s t =
+    decides_as (λ e. sym (cell_back s) ∙ ap of_cell e ∙ cell_back t) (ap sense_cell) (decides_equal (sense_cell s) (sense_cell t))
 
 -- ---- rows by their index
 
@@ -37,24 +37,24 @@ module _ (tree : Tree) where
   derivations = tree.derivations.derivations
 
   -- indices below m are given rows
-  pub entry-given : (i : ℕ) → i < length rows → entry_at tree i ≡ givenRow (get_or rows i no_row)
+  pub entry_given : (i : ℕ) → i < length rows → entry_at tree i ≡ given_row (get_or rows i no_row)
   unfolding entry_at entries
-  entry-given i h =
-      get_or-append (map givenRow rows) (map derivedRow derivations) (givenRow no_row) i (rw (length-map rows givenRow) h)
-      ∙ get_or-map givenRow rows i no_row
+  entry_given i h =
+      get_or-append (map given_row rows) (map derived_row derivations) (given_row no_row) i (rw (length-map rows given_row) h)
+      ∙ get_or-map given_row rows i no_row
 
   -- and from m on derived ones
-  pub entry-derived : (k : ℕ) → entry_at tree (length rows + k) ≡ get_or (map derivedRow derivations) k (givenRow no_row)
+  pub entry_derived : (k : ℕ) → entry_at tree (length rows + k) ≡ get_or (map derived_row derivations) k (given_row no_row)
   unfolding entry_at entries
-  entry-derived k =
-      ap (λ (n : ℕ). get_or (map givenRow rows ++ map derivedRow derivations) (n + k) (givenRow no_row)) (sym (length-map rows givenRow))
-      ∙ get_or-append-add (map givenRow rows) (map derivedRow derivations) k (givenRow no_row)
+  entry_derived k =
+      ap (λ (n : ℕ). get_or (map given_row rows ++ map derived_row derivations) (n + k) (given_row no_row)) (sym (length-map rows given_row))
+      ∙ get_or-append-add (map given_row rows) (map derived_row derivations) k (given_row no_row)
 
   -- the row at which a list of entries goes on
   pub entry_next : (front : List Entry) (e : Entry) (back : List Entry) (i : ℕ) → entries tree ≡ front ++ e ∷ back → length front ≡ i → entry_at tree i ≡ e
   unfolding entry_at
-  entry_next front e back i p q = ap (λ (l : List Entry). get_or l i (givenRow no_row)) p ∙ get_or_at front e back (givenRow no_row) i q
+  entry_next front e back i p q = ap (λ (l : List Entry). get_or l i (given_row no_row)) p ∙ get_or_at front e back (given_row no_row) i q
 
-  pub entry-beyond : (i : ℕ) → length (entries tree) ≤ i → entry_at tree i ≡ givenRow no_row
+  pub entry_beyond : (i : ℕ) → length (entries tree) ≤ i → entry_at tree i ≡ given_row no_row
   unfolding entry_at
-  entry-beyond i h = get_or-eq_default (entries tree) (givenRow no_row) h
+  entry_beyond i h = get_or-eq_default (entries tree) (given_row no_row) h

@@ -24,9 +24,9 @@ abbrev pub Some : {A : Type 0} → (A → Type 0) → List A → Type 0
 Some P [] = ⊥
 Some P (x ∷ xs) = P x ⊎ Some P xs
 
-abbrev pub someOf : {A : Type 0} → (A → Bool) → List A → Bool
-someOf test [] = false
-someOf test (x ∷ xs) = test x || someOf test xs
+abbrev pub some_of : {A : Type 0} → (A → Bool) → List A → Bool
+some_of test [] = false
+some_of test (x ∷ xs) = test x || some_of test xs
 
 -- a is one of the list
 abbrev pub In : {A : Type 0} → A → List A → Type 0
@@ -37,9 +37,9 @@ In a xs = Some (λ x. x ≡ a) xs
 abbrev pub EveryBelow : ℕ → (ℕ → Type 0) → Type 0
 EveryBelow n P = (v : ℕ) → v < n → P v
 
-abbrev pub everyBelow : ℕ → (ℕ → Bool) → Bool
-everyBelow zero test = true
-everyBelow (suc n) test = everyBelow n test && test n
+abbrev pub every_below : ℕ → (ℕ → Bool) → Bool
+every_below zero test = true
+every_below (suc n) test = every_below n test && test n
 
 -- ---- laws: what a test made of tests decides
 
@@ -55,8 +55,8 @@ pub failed : {P : Type 0} {test : Bool} → Decides test P → test ≡ false �
 failed d e p = not-true (sym e ∙ d.1 p)
 
 -- the same in other words
-pub decides-as : {P Q : Type 0} {test : Bool} → (P → Q) → (Q → P) → Decides test P → Decides test Q
-decides-as f g d = ((λ e. f (d.0 e)), λ q. d.1 (g q))
+pub decides_as : {P Q : Type 0} {test : Bool} → (P → Q) → (Q → P) → Decides test P → Decides test Q
+decides_as f g d = ((λ e. f (d.0 e)), λ q. d.1 (g q))
 
 pub decides_and : {P Q : Type 0} (a b : Bool) → Decides a P → Decides b Q → Decides (a && b) (P × Q)
 decides_and true b d e = ((λ h. (d.0 refl, e.0 h)), λ p. e.1 p.1)
@@ -71,21 +71,21 @@ decides_not true d = ((λ h. not-true h), λ f. absurd (f (d.0 refl)))
 decides_not false d = ((λ h p. not-true (d.1 p)), λ f. refl)
 
 -- Q wherever not P
-pub decides-unless : {P Q : Type 0} (a b : Bool) → Decides a P → Decides b Q → Decides (a || b) ((P → ⊥) → Q)
-decides-unless true b d e = ((λ h f. absurd (f (d.0 refl))), λ p. refl)
-decides-unless false b d e = ((λ h f. e.0 h), λ p. e.1 (p (λ q. not-true (d.1 q))))
+pub decides_unless : {P Q : Type 0} (a b : Bool) → Decides a P → Decides b Q → Decides (a || b) ((P → ⊥) → Q)
+decides_unless true b d e = ((λ h f. absurd (f (d.0 refl))), λ p. refl)
+decides_unless false b d e = ((λ h f. e.0 h), λ p. e.1 (p (λ q. not-true (d.1 q))))
 
-pub decides-equal : (a b : ℕ) → Decides (eqb a b) (a ≡ b)
-decides-equal a b = (eqb-true a b, eq-eqb a b)
+pub decides_equal : (a b : ℕ) → Decides (eqb a b) (a ≡ b)
+decides_equal a b = (eqb-true a b, eq-eqb a b)
 
 module _ {A : Type 0} (test : A → Bool) (P : A → Type 0) (d : (x : A) → Decides (test x) (P x)) where
-  pub decides-all : (xs : List A) → Decides (all_of test xs) (All P xs)
-  decides-all [] = ((λ h. tt), λ p. refl)
-  decides-all (x ∷ xs) = decides_and (test x) (all_of test xs) (d x) (decides-all xs)
+  pub decides_all : (xs : List A) → Decides (all_of test xs) (All P xs)
+  decides_all [] = ((λ h. tt), λ p. refl)
+  decides_all (x ∷ xs) = decides_and (test x) (all_of test xs) (d x) (decides_all xs)
 
-  pub decides-some : (xs : List A) → Decides (someOf test xs) (Some P xs)
-  decides-some [] = ((λ h. not-true h), λ p. absurd p)
-  decides-some (x ∷ xs) = decides_or (test x) (someOf test xs) (d x) (decides-some xs)
+  pub decides_some : (xs : List A) → Decides (some_of test xs) (Some P xs)
+  decides_some [] = ((λ h. not-true h), λ p. absurd p)
+  decides_some (x ∷ xs) = decides_or (test x) (some_of test xs) (d x) (decides_some xs)
 
   -- not each passes exactly if some does not
   pub not-all : (xs : List A) → (all_of test xs ≡ false) ↔ Some (λ x. P x → ⊥) xs
@@ -97,11 +97,11 @@ module _ {A : Type 0} (test : A → Bool) (P : A → Type 0) (d : (x : A) → De
       go false d r = ((λ h. inl (λ p. not-true (d.1 p))), λ p. refl)
 
 module _ (test : ℕ → Bool) (P : ℕ → Type 0) (d : (v : ℕ) → Decides (test v) (P v)) where
-  pub decides_below : (n : ℕ) → Decides (everyBelow n test) (EveryBelow n P)
+  pub decides_below : (n : ℕ) → Decides (every_below n test) (EveryBelow n P)
   decides_below zero = ((λ h v k. absurd (not-suc-le-zero k)), λ p. refl)
   decides_below (suc n) =
-      decides-as (λ p v k. last n v p.0 p.1 k) (λ p. ((λ v k. p v (omega arith)), p n (omega arith)))
-      (decides_and (everyBelow n test) (test n) (decides_below n) (d n))
+      decides_as (λ p v k. last n v p.0 p.1 k) (λ p. ((λ v k. p v (omega arith)), p n (omega arith)))
+      (decides_and (every_below n test) (test n) (decides_below n) (d n))
     where
       last : (n v : ℕ) → EveryBelow n P → P n → v < suc n → P v
       last n v below at k = go (eqb v n) refl

@@ -5,44 +5,44 @@ use Rattle.std.specs.Prelude.{◌≡◌, Bool, true, false, ℕ, eqb, ℤ, pos, 
 use Rattle.std.specs.Int.Signed.{lt_z}
 use Rattle.arithmetic.specs.Outcome.{Outcome, gives, refuses}
 use Rattle.arithmetic.specs.Quotient.{Quotient, ◌≈◌, ◌≤Q◌, ◌+Q◌, ◌*Q◌, whole_q}
-use Rattle.arithmetic.specs.Fraction.{IsFraction, exact, Order, productOf, sum_of, compareOf}
+use Rattle.arithmetic.specs.Fraction.{IsFraction, exact, Order, product_of, sum_of, compare_of}
 use Rattle.arithmetic.specs.declared.Fraction.{Fraction}
 use Rattle.rules.specs.Result.{Result, done, refused}
 
 -- ---- whole values
 
-abbrev pub wholeF : ℤ → Fraction
-wholeF z = record { num = z; den = pos 1 }
+abbrev pub whole_f : ℤ → Fraction
+whole_f z = record { num = z; den = pos 1 }
 
 -- "whole": z / 1 for a whole number z, for fractions are in lowest terms
 abbrev pub Whole : Fraction → Type 0
-Whole f = (z : ℤ) × (f ≡ wholeF z)
+Whole f = (z : ℤ) × (f ≡ whole_f z)
 
-abbrev pub sameZ : ℤ → ℤ → Bool
-sameZ (pos a) (pos b) = eqb a b
-sameZ (pos a) (negsuc b) = false
-sameZ (negsuc a) (pos b) = false
-sameZ (negsuc a) (negsuc b) = eqb a b
+abbrev pub same_z : ℤ → ℤ → Bool
+same_z (pos a) (pos b) = eqb a b
+same_z (pos a) (negsuc b) = false
+same_z (negsuc a) (pos b) = false
+same_z (negsuc a) (negsuc b) = eqb a b
 
-abbrev pub isWhole : Fraction → Bool
-isWhole f = sameZ f.den (pos 1)
+abbrev pub is_whole : Fraction → Bool
+is_whole f = same_z f.den (pos 1)
 
 -- ---- signs, which a rational number has from its numerator
 
-abbrev pub zeroQ : Quotient
-zeroQ = whole_q (pos 0)
+abbrev pub zero_q : Quotient
+zero_q = whole_q (pos 0)
 
--- x ≈ zeroQ
-abbrev pub isZero : Quotient → Bool
-isZero x = sameZ x.top (pos 0)
+-- x ≈ zero_q
+abbrev pub is_zero : Quotient → Bool
+is_zero x = same_z x.top (pos 0)
 
--- zeroQ <Q x
-abbrev pub isPositive : Quotient → Bool
-isPositive x = lt_z (pos 0) x.top
+-- zero_q <Q x
+abbrev pub is_positive : Quotient → Bool
+is_positive x = lt_z (pos 0) x.top
 
--- x <Q zeroQ
-abbrev pub isNegative : Quotient → Bool
-isNegative x = lt_z x.top (pos 0)
+-- x <Q zero_q
+abbrev pub is_negative : Quotient → Bool
+is_negative x = lt_z x.top (pos 0)
 
 -- ---- "Comparisons are exact, never 12": a comparison holds of fractions only
 
@@ -58,25 +58,25 @@ AtMost a b = Compared ◌≤Q◌ a b
 abbrev pub Same : Fraction → Fraction → Type 0
 Same a b = Compared ◌≈◌ a b
 
-abbrev pub notGreater : Order → Bool
-notGreater Order.less = true
-notGreater Order.equal = true
-notGreater Order.greater = false
+abbrev pub not_greater : Order → Bool
+not_greater Order.less = true
+not_greater Order.equal = true
+not_greater Order.greater = false
 
-abbrev pub isEqual : Order → Bool
-isEqual Order.less = false
-isEqual Order.equal = true
-isEqual Order.greater = false
+abbrev pub is_equal : Order → Bool
+is_equal Order.less = false
+is_equal Order.equal = true
+is_equal Order.greater = false
 
 abbrev pub passes : (Order → Bool) → Outcome Order → Bool
 passes test (gives o) = test o
 passes test (refuses n) = false
 
-abbrev pub isAtMost : Fraction → Fraction → Bool
-isAtMost a b = passes notGreater (compareOf a b)
+abbrev pub is_at_most : Fraction → Fraction → Bool
+is_at_most a b = passes not_greater (compare_of a b)
 
-abbrev pub isSame : Fraction → Fraction → Bool
-isSame a b = passes isEqual (compareOf a b)
+abbrev pub is_same : Fraction → Fraction → Bool
+is_same a b = passes is_equal (compare_of a b)
 
 -- ---- "Every product and every sum is brought to lowest terms; numerator magnitude or denominator above 2,147,483,647 is
 -- refusal 12"
@@ -94,8 +94,8 @@ abbrev pub within12 : ℕ → Outcome Fraction → Result Fraction
 within12 place (gives f) = done f
 within12 place (refuses n) = refused 12 place
 
-abbrev pub productAt : ℕ → Fraction → Fraction → Result Fraction
-productAt place a b = within12 place (productOf a b)
+abbrev pub product_at : ℕ → Fraction → Fraction → Result Fraction
+product_at place a b = within12 place (product_of a b)
 
 abbrev pub sum_at : ℕ → Fraction → Fraction → Result Fraction
 sum_at place a b = within12 place (sum_of a b)

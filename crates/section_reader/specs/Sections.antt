@@ -3,11 +3,11 @@
 use Rattle.std.specs.Prelude.{◌≡◌, refl, List, ℕ, suc, ◌+◌, ◌-◌, ◌*◌, ◌≤◌}
 use Rattle.text.specs.Bytes.{Bytes}
 use Rattle.text.specs.Words as W
-use Rattle.tables.specs.Limits.{mostRows}
+use Rattle.tables.specs.Limits.{most_rows}
 use Rattle.grammar.specs.Tree.{Objective, Derivation, Derivations}
 use Rattle.grammar.specs.Format.{Format, symbol, placed, then, items, view}
 use Rattle.grammar.specs.Certificate.{count_to, derivation}
-use Rattle.grammar.specs.Header.{isMaximize}
+use Rattle.grammar.specs.Header.{is_maximize}
 use Rattle.symbol_reader.specs.Steps.{State}
 use Rattle.symbol_reader.specs.Follows.{below}
 use Rattle.symbol_reader.specs.declared.Step.{Step}
@@ -40,17 +40,17 @@ Where P n s = P
 
 -- what reading the objective o after the answer s hands back: its terms follow the cells of its direction and of their count
 pub record SaysObjective (s : Step) (o : Objective) (r : ObjectiveAnswer) : Type 0 where
-  pub direction : r.maximize ≡ isMaximize o.direction
+  pub direction : r.maximize ≡ is_maximize o.direction
   pub terms : r.terms ≡ record { cell = cells_of s + 2; number = values_of s; count = o.terms.count }
 
 -- the section of derivations after m given rows with these names
-abbrev pub derivationsAfter : ℕ → ℕ → List Bytes → Format Derivations
-derivationsAfter n m names =
+abbrev pub derivations_after : ℕ → ℕ → List Bytes → Format Derivations
+derivations_after n m names =
     view {A = (p : ℕ) × ((d : ℕ) × List Derivation)} {B = Derivations}
     (λ p. record { place = p.0; count = p.1.0; derivations = p.1.1 }) (λ d. (d.place, (d.count, d.derivations))) (λ p. refl) (λ d. refl)
-    (then (symbol (placed W.DER)) (λ p. then (count_to (mostRows - m)) (λ d. items d (derivation n m names d))))
+    (then (symbol (placed W.DER)) (λ p. then (count_to (most_rows - m)) (λ d. items d (derivation n m names d))))
 
 -- what reading it hands back: the place of its word, and by the answer how many derivations there are
 pub record SaysDerivations (m : ℕ) (d : Derivations) (k : ℕ) (r : DerivationsAnswer) : Type 0 where
   pub place : r.place ≡ d.place
-  pub count : below (suc (mostRows - m)) d.count k
+  pub count : below (suc (most_rows - m)) d.count k

@@ -1,12 +1,12 @@
 // The sections before the proof: version, variables, integer variables, objective, constraints.
 ghost use Rattle.std.specs.Prelude.{◌≡◌, List, ℤ, length, ℕ, suc, ◌≤◌};
-ghost use Rattle.tables.specs.Limits.{mostVariables, mostRows};
+ghost use Rattle.tables.specs.Limits.{most_variables, most_rows};
 ghost use Rattle.grammar.specs.Format.{symbol, items, name};
-ghost use Rattle.grammar.specs.Certificate.{rowNames, newIndexBelow, version, variables, integers, objectiveSection, constraints};
+ghost use Rattle.grammar.specs.Certificate.{row_names, new_index_below, version, variables, integers, objective_section, constraints};
 ghost use Rattle.grammar.specs.Tree.{Variables, Integers, Constraints};
 ghost use Rattle.symbol_reader.specs.Steps.{any};
 ghost use Rattle.symbol_reader.specs.Follows.{Always, Follows, below};
-ghost use Rattle.symbol_reader.specs.Marks.{Fingerprinted, printWords};
+ghost use Rattle.symbol_reader.specs.Marks.{Fingerprinted, print_words};
 ghost use Rattle.section_reader.specs.Sections.{SaysObjective};
 
 use crate::answers;
@@ -47,7 +47,7 @@ fn read_names(text: &[u8], s: Step) -> Step
 
 // `VAR`, a count and that many names are due; the count is handed on.
 pub fn read_variables(text: &[u8], s: Step, index: &mut [u16]) -> Step
-    ensures { (vs : List ℤ) (rs : List ℕ) → Follows Always (λ _. variables) (λ (v : Variables). below (suc mostVariables) v.count) text.now s index.old vs rs index.new vs rs result }
+    ensures { (vs : List ℤ) (rs : List ℕ) → Follows Always (λ _. variables) (λ (v : Variables). below (suc most_variables) v.count) text.now s index.old vs rs index.new vs rs result }
 {
     let s = words::read_word(text, s, b"VAR");
     let count = numbers::read_count(text, s, limits::VARIABLES, index);
@@ -57,7 +57,7 @@ pub fn read_variables(text: &[u8], s: Step, index: &mut [u16]) -> Step
 
 // As many indices below the bound are due as the answer's number says, all distinct.
 fn read_indices(text: &[u8], s: Step, bound: usize, index: &mut [u16]) -> Step
-    ensures { (vs : List ℤ) (rs : List ℕ) → bound ≤ mostVariables → Follows Always (λ k. items k (λ before. newIndexBelow bound before)) any text.now s index.old vs rs index.new vs rs result }
+    ensures { (vs : List ℤ) (rs : List ℕ) → bound ≤ most_variables → Follows Always (λ k. items k (λ before. new_index_below bound before)) any text.now s index.old vs rs index.new vs rs result }
 {
     let Step::Next(count, c) = s else {
         return s;
@@ -78,7 +78,7 @@ fn read_indices(text: &[u8], s: Step, bound: usize, index: &mut [u16]) -> Step
 
 // `INT`, a count and that many indices of variables are due, of which there are n; the count is handed on.
 pub fn read_integers(text: &[u8], s: Step, n: usize, index: &mut [u16]) -> Step
-    ensures { (vs : List ℤ) (rs : List ℕ) → n ≤ mostVariables → Follows Always (λ _. integers n) (λ (i : Integers). below (suc n) i.count) text.now s index.old vs rs index.new vs rs result }
+    ensures { (vs : List ℤ) (rs : List ℕ) → n ≤ most_variables → Follows Always (λ _. integers n) (λ (i : Integers). below (suc n) i.count) text.now s index.old vs rs index.new vs rs result }
 {
     let s = words::read_word(text, s, b"INT");
     let count = numbers::read_count(text, s, n, index);
@@ -102,7 +102,7 @@ pub fn read_objective(
     index: &mut [u16],
     values: &mut [i32],
 ) -> ObjectiveAnswer
-    ensures { (rs : List ℕ) → n ≤ mostVariables → Follows Always (λ _. objectiveSection n) (λ o k. SaysObjective s o result) text.now s index.old values.old rs index.new values.new rs result.answer }
+    ensures { (rs : List ℕ) → n ≤ most_variables → Follows Always (λ _. objective_section n) (λ o k. SaysObjective s o result) text.now s index.old values.old rs index.new values.new rs result.answer }
 {
     let s = words::read_word(text, s, b"OBJ");
     let direction = words::read_direction(text, s, index);
@@ -130,7 +130,7 @@ pub fn read_constraints(
     rows: &mut [u16],
     prints: &mut [u64],
 ) -> Step
-    ensures { n ≤ mostVariables → length prints.old ≡ printWords → Follows Always (λ _. constraints n) (λ (c : Constraints) k. below (suc mostRows) c.count k × Fingerprinted (rowNames c.rows) prints.new) text.now s index.old values.old rows.old index.new values.new rows.new result }
+    ensures { n ≤ most_variables → length prints.old ≡ print_words → Follows Always (λ _. constraints n) (λ (c : Constraints) k. below (suc most_rows) c.count k × Fingerprinted (row_names c.rows) prints.new) text.now s index.old values.old rows.old index.new values.new rows.new result }
 {
     let s = words::read_word(text, s, b"CON");
     let given = numbers::read_count(text, s, limits::ROWS, index);

@@ -1,15 +1,15 @@
 // The sections of the proof: the relation to prove, solutions, derivations.
 ghost use Rattle.std.specs.Prelude.{◌≡◌, List, length, ℕ, suc, ◌-◌, ◌*◌, ◌≤◌, ◌<◌};
 ghost use Rattle.std.proofs.Math.Seq.{slice};
-ghost use Rattle.tables.specs.Limits.{mostVariables, mostRows, mostSolutions};
+ghost use Rattle.tables.specs.Limits.{most_variables, most_rows, most_solutions};
 ghost use Rattle.grammar.specs.Format.{items};
-ghost use Rattle.grammar.specs.Certificate.{ClaimWord, claimCell, ends, claim, relation, solution, solutionSection};
+ghost use Rattle.grammar.specs.Certificate.{ClaimWord, claim_cell, ends, claim, relation, solution, solution_section};
 ghost use Rattle.grammar.specs.Tree.{Relation, Solution, Solutions};
 ghost use Rattle.symbol_reader.specs.Steps.{any, the};
 ghost use Rattle.symbol_reader.specs.Follows.{Always, ForValue, Tells, Follows, below};
-ghost use Rattle.symbol_reader.specs.Leaves.{namesIn};
+ghost use Rattle.symbol_reader.specs.Leaves.{names_in};
 ghost use Rattle.symbol_reader.specs.Marks.{Fingerprinted};
-ghost use Rattle.section_reader.specs.Sections.{ForEnds, AtMost, Where, derivationsAfter, SaysDerivations};
+ghost use Rattle.section_reader.specs.Sections.{ForEnds, AtMost, Where, derivations_after, SaysDerivations};
 
 use crate::answers;
 use row_reader::{derivations, lists};
@@ -18,7 +18,7 @@ use tables::limits;
 
 // The ends of a claim are due by its word, whose cell the answer hands on: none after `infeas`, two after `range`.
 fn read_ends(text: &[u8], s: Step, index: &mut [u16], values: &mut [i32]) -> Step
-    ensures { (w : ClaimWord) (rs : List ℕ) → Tells (the claimCell) w s → Follows ForEnds (λ _. ends w) any text.now s index.old values.old rs index.new values.new rs result }
+    ensures { (w : ClaimWord) (rs : List ℕ) → Tells (the claim_cell) w s → Follows ForEnds (λ _. ends w) any text.now s index.old values.old rs index.new values.new rs result }
 {
     let Step::Next(word, _) = s else {
         return s;
@@ -57,8 +57,8 @@ fn read_solution(
     values: &mut [i32],
     rows: &mut [u16],
 ) -> Step
-    requires { j < mostSolutions }
-    ensures { (before : List Solution) → n ≤ mostVariables → length before ≡ j → Follows Always (λ _. solution n before) any text.now s index.old values.old rows.old index.new values.new rows.new result }
+    requires { j < most_solutions }
+    ensures { (before : List Solution) → n ≤ most_variables → length before ≡ j → Follows Always (λ _. solution n before) any text.now s index.old values.old rows.old index.new values.new rows.new result }
 {
     let s = names::read_free_name(text, s, limits::ROWS + j, rows);
     lists::read_pair_list(text, s, n, index, values)
@@ -73,7 +73,7 @@ fn read_solution_list(
     values: &mut [i32],
     rows: &mut [u16],
 ) -> Step
-    ensures { n ≤ mostVariables → Follows (AtMost mostSolutions) (λ k. items k (solution n)) any text.now s index.old values.old rows.old index.new values.new rows.new result }
+    ensures { n ≤ most_variables → Follows (AtMost most_solutions) (λ k. items k (solution n)) any text.now s index.old values.old rows.old index.new values.new rows.new result }
 {
     let count = answers::count_of(s, limits::SOLUTIONS);
     let Step::Next(_, c) = s else {
@@ -101,7 +101,7 @@ pub fn read_solutions(
     values: &mut [i32],
     rows: &mut [u16],
 ) -> Step
-    ensures { n ≤ mostVariables → Follows Always (λ _. solutionSection n) (λ (l : Solutions). below (suc mostSolutions) l.count) text.now s index.old values.old rows.old index.new values.new rows.new result }
+    ensures { n ≤ most_variables → Follows Always (λ _. solution_section n) (λ (l : Solutions). below (suc most_solutions) l.count) text.now s index.old values.old rows.old index.new values.new rows.new result }
 {
     let s = words::read_word(text, s, b"SOL");
     let count = numbers::read_count(text, s, limits::SOLUTIONS, index);
@@ -111,7 +111,7 @@ pub fn read_solutions(
 
 // How many rows more than m a certificate may have.
 fn rows_left(m: usize) -> usize
-    ensures { result ≡ mostRows - m }
+    ensures { result ≡ most_rows - m }
 {
     if m < limits::ROWS {
         limits::ROWS - m
@@ -139,7 +139,7 @@ pub fn read_derivations(
     rows: &mut [u16],
     prints: &mut [u64],
 ) -> DerivationsAnswer
-    ensures { n ≤ mostVariables → m ≤ mostRows → Follows (Where (Fingerprinted (namesIn text.now (slice 0 (4 * m) rows.old)) prints.old)) (λ _. derivationsAfter n m (namesIn text.now (slice 0 (4 * m) rows.old))) (λ d k. SaysDerivations m d k result) text.now s index.old values.old rows.old index.new values.new rows.new result.answer }
+    ensures { n ≤ most_variables → m ≤ most_rows → Follows (Where (Fingerprinted (names_in text.now (slice 0 (4 * m) rows.old)) prints.old)) (λ _. derivations_after n m (names_in text.now (slice 0 (4 * m) rows.old))) (λ d k. SaysDerivations m d k result) text.now s index.old values.old rows.old index.new values.new rows.new result.answer }
 {
     let place = words::read_placed(text, s, b"DER");
     let count = numbers::read_count(text, place, rows_left(m), index);

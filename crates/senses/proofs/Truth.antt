@@ -22,11 +22,11 @@ module _ {r b : Bool} (a : Bool) (e : r ≡ b) where
   pub and_first : r ≡ true → a ≡ a && b
   and_first t = and_yes a e t ∙ and_comm b a
 
-  pub and-neither : r ≡ false → false ≡ a && b
-  and-neither t = and_no a e t ∙ and_comm b a
+  pub and_neither : r ≡ false → false ≡ a && b
+  and_neither t = and_no a e t ∙ and_comm b a
 
-  pub or-either : r ≡ true → true ≡ a || b
-  or-either t = or_yes a e t ∙ or_comm b a
+  pub or_either : r ≡ true → true ≡ a || b
+  or_either t = or_yes a e t ∙ or_comm b a
 
   pub or-first : r ≡ false → a ≡ a || b
   or-first t = or_no a e t ∙ or_comm b a

@@ -4,13 +4,13 @@ use Rattle.std.specs.Prelude.{Bool, ◌&&◌, ◌||◌, ℤ}
 use Rattle.arithmetic.specs.Outcome.{Outcome, gives, refuses}
 use Rattle.arithmetic.specs.Fraction.{exact}
 use Rattle.arithmetic.specs.declared.Fraction.{Fraction}
-use Rattle.rules.specs.Values.{isWhole, isZero, wholeF}
+use Rattle.rules.specs.Values.{is_whole, is_zero, whole_f}
 
 -- whole, and "nonzero only at integer variables"
-abbrev pub mayStand : Fraction → Bool → Bool
-mayStand f integer = isWhole f && (isZero (exact f) || integer)
+abbrev pub may_stand : Fraction → Bool → Bool
+may_stand f integer = is_whole f && (is_zero (exact f) || integer)
 
 -- the right side that a rounding gives; where there is none, the one that was to be rounded
-abbrev pub withRounding : Fraction → Outcome ℤ → Fraction
-withRounding right (gives z) = wholeF z
-withRounding right (refuses n) = right
+abbrev pub with_rounding : Fraction → Outcome ℤ → Fraction
+with_rounding right (gives z) = whole_f z
+with_rounding right (refuses n) = right

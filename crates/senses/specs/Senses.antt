@@ -8,11 +8,11 @@ use Rattle.senses.specs.declared.Sense.{Sense}
 use Rattle.senses.specs.declared.Sense.TheVariants.{Equal, AtMost, AtLeast}
 
 -- `E`, `L`, `G`
-abbrev pub senseIs : Sense → tree.Sense
-senseIs Equal = tree.equal
-senseIs AtMost = tree.at_most
-senseIs AtLeast = tree.at_least
+abbrev pub sense_is : Sense → tree.Sense
+sense_is Equal = tree.equal
+sense_is AtMost = tree.at_most
+sense_is AtLeast = tree.at_least
 
 -- the constraint of coefficients, a sense and a right side
-abbrev pub constraintBy : (ℕ → Fraction) → Sense → Fraction → rows.Constraint
-constraintBy coefficient sense right = record { sense = senseIs sense; coefficient = coefficient; right = right }
+abbrev pub constraint_by : (ℕ → Fraction) → Sense → Fraction → rows.Constraint
+constraint_by coefficient sense right = record { sense = sense_is sense; coefficient = coefficient; right = right }

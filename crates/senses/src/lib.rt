@@ -2,13 +2,13 @@
 // function asks anything of its caller: what holds of fractions is said of these.
 ghost use Rattle.std.specs.Prelude.{◌≡◌};
 ghost use Rattle.arithmetic.specs.Fraction.{IsFraction};
-ghost use Rattle.grammar.specs.Certificate.{senseCell};
-ghost use Rattle.grammar.specs.Header.{isMaximize};
+ghost use Rattle.grammar.specs.Certificate.{sense_cell};
+ghost use Rattle.grammar.specs.Header.{is_maximize};
 ghost use Rattle.grammar.specs.Tree.{Direction};
-ghost use Rattle.rules.specs.Rows.{sameSense};
+ghost use Rattle.rules.specs.Rows.{same_sense};
 ghost use Rattle.rules.specs.Solutions.{holds as holds_of, towards};
-ghost use Rattle.rules.specs.Domination.{failsAtZero, isTighter};
-ghost use Rattle.senses.specs.Senses.{senseIs};
+ghost use Rattle.rules.specs.Domination.{fails_at_zero, is_tighter};
+ghost use Rattle.senses.specs.Senses.{sense_is};
 
 use arithmetic::Fraction;
 
@@ -26,7 +26,7 @@ pub enum Sense {
 
 // The sense's number in the index table.
 fn sense_cell(sense: Sense) -> u16
-    ensures { result ≡ senseCell (senseIs sense) }
+    ensures { result ≡ sense_cell (sense_is sense) }
 {
     match sense {
         Sense::Equal => 0,
@@ -36,14 +36,14 @@ fn sense_cell(sense: Sense) -> u16
 }
 
 pub(crate) fn same_sense(a: Sense, b: Sense) -> bool
-    ensures { result ≡ sameSense (senseIs a) (senseIs b) }
+    ensures { result ≡ same_sense (sense_is a) (sense_is b) }
 {
     sense_cell(a) == sense_cell(b)
 }
 
 // The sense of being as good: at most under min, at least under max.
 pub fn sense_towards(maximize: bool) -> Sense
-    ensures { (d : Direction) → maximize ≡ isMaximize d → senseIs result ≡ towards d }
+    ensures { (d : Direction) → maximize ≡ is_maximize d → sense_is result ≡ towards d }
 {
     if maximize {
         Sense::AtLeast
@@ -54,7 +54,7 @@ pub fn sense_towards(maximize: bool) -> Sense
 
 // Whether a sense holds of a left side and a right side.
 pub fn holds(sense: Sense, left: Fraction, right: Fraction) -> bool
-    ensures { IsFraction left → IsFraction right → result ≡ holds_of (senseIs sense) left right }
+    ensures { IsFraction left → IsFraction right → result ≡ holds_of (sense_is sense) left right }
 {
     match sense {
         Sense::Equal => values::is_same(left, right),
@@ -65,7 +65,7 @@ pub fn holds(sense: Sense, left: Fraction, right: Fraction) -> bool
 
 // Whether the sense fails of 0 and a right side.
 pub fn fails_at_zero(sense: Sense, right: Fraction) -> bool
-    ensures { result ≡ failsAtZero (senseIs sense) right }
+    ensures { result ≡ fails_at_zero (sense_is sense) right }
 {
     let n = right.num;
     match sense {
@@ -77,7 +77,7 @@ pub fn fails_at_zero(sense: Sense, right: Fraction) -> bool
 
 // Whether sense s with right side a is as tight as sense t with right side b, where the coefficients are equal.
 pub fn is_tighter(s: Sense, a: Fraction, t: Sense, b: Fraction) -> bool
-    ensures { IsFraction a → IsFraction b → result ≡ isTighter (senseIs s) a (senseIs t) b }
+    ensures { IsFraction a → IsFraction b → result ≡ is_tighter (sense_is s) a (sense_is t) b }
 {
     match s {
         Sense::Equal => holds(t, a, b),

@@ -1,21 +1,21 @@
 // Right sides: those that are rounded, and those of the two rows of a split.
 ghost use Rattle.std.specs.Prelude.{◌≡◌, ◌&&◌, ℕ, pos, ◌+ℤ◌};
-ghost use Rattle.arithmetic.specs.Fraction.{IsFraction, roundingSays};
+ghost use Rattle.arithmetic.specs.Fraction.{IsFraction, rounding_says};
 ghost use Rattle.arithmetic.specs.declared.Fraction.{Fraction as Value};
 ghost use Rattle.grammar.specs.Tree.{Tree};
-ghost use Rattle.rules.specs.Values.{sameZ, isWhole};
+ghost use Rattle.rules.specs.Values.{same_z, is_whole};
 ghost use Rattle.rules.specs.Rows.{Constraint};
-ghost use Rattle.rules.specs.Rounding.{isIntegral, canBeRounded, roundedRight};
-ghost use Rattle.rules.specs.Splits.{areAdjacent};
-ghost use Rattle.senses.specs.Senses.{senseIs, constraintBy};
-ghost use Rattle.senses.specs.Rounding.{withRounding};
+ghost use Rattle.rules.specs.Rounding.{is_integral, can_be_rounded, rounded_right};
+ghost use Rattle.rules.specs.Splits.{are_adjacent};
+ghost use Rattle.senses.specs.Senses.{sense_is, constraint_by};
+ghost use Rattle.senses.specs.Rounding.{with_rounding};
 
 use crate::{Sense, values};
 use arithmetic::{Fraction, Rounding};
 
 // "14 if it is an equality, or a coefficient is not whole, or a nonzero one stands at a variable that isn't integer".
 pub fn can_be_rounded(sense: Sense, integral: bool) -> bool
-    ensures { (tree : Tree) (c : Constraint) → c.sense ≡ senseIs sense → integral ≡ isIntegral tree c → result ≡ canBeRounded tree c }
+    ensures { (tree : Tree) (c : Constraint) → c.sense ≡ sense_is sense → integral ≡ is_integral tree c → result ≡ can_be_rounded tree c }
 {
     if crate::same_sense(sense, Sense::Equal) {
         false
@@ -26,7 +26,7 @@ pub fn can_be_rounded(sense: Sense, integral: bool) -> bool
 
 // A right side that a rounding gives; where there is none, it stays.
 fn with_rounding(right: Fraction, rounding: Rounding) -> Fraction
-    ensures { result ≡ withRounding right (roundingSays rounding) }
+    ensures { result ≡ with_rounding right (rounding_says rounding) }
 {
     match rounding {
         Rounding::Whole(z) => Fraction { num: z, den: 1 },
@@ -36,7 +36,7 @@ fn with_rounding(right: Fraction, rounding: Rounding) -> Fraction
 
 // "β' = ⌊β⌋ if sense is ≤, ⌈β⌉ if sense is ≥".
 pub fn rounded_right(sense: Sense, right: Fraction) -> Fraction
-    ensures { IsFraction right → (result ≡ roundedRight (senseIs sense) right) × IsFraction result }
+    ensures { IsFraction right → (result ≡ rounded_right (sense_is sense) right) × IsFraction result }
 {
     match sense {
         Sense::Equal => right,
@@ -47,7 +47,7 @@ pub fn rounded_right(sense: Sense, right: Fraction) -> Fraction
 
 // Whether a is whole and b is exactly a + 1.
 fn are_next(a: Fraction, b: Fraction) -> bool
-    ensures { result ≡ isWhole a && (isWhole b && sameZ b.num (a.num +ℤ pos 1)) }
+    ensures { result ≡ is_whole a && (is_whole b && same_z b.num (a.num +ℤ pos 1)) }
 {
     if values::is_whole(a) {
         if values::is_whole(b) {
@@ -61,7 +61,7 @@ fn are_next(a: Fraction, b: Fraction) -> bool
 
 // "one is L with whole β, the other G with exactly β + 1 (never 12)".
 pub fn are_adjacent(s: Sense, a: Fraction, t: Sense, b: Fraction) -> bool
-    ensures { (f g : ℕ → Value) → result ≡ areAdjacent (constraintBy f s a) (constraintBy g t b) }
+    ensures { (f g : ℕ → Value) → result ≡ are_adjacent (constraint_by f s a) (constraint_by g t b) }
 {
     if crate::same_sense(s, Sense::AtMost) {
         if crate::same_sense(t, Sense::AtLeast) {

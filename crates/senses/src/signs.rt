@@ -1,9 +1,9 @@
 // The sign rule.
 ghost use Rattle.std.specs.Prelude.{◌≡◌, true, List};
 ghost use Rattle.grammar.specs.Tree.{Multiplier, Tree};
-ghost use Rattle.rules.specs.Combinations.{isSuitable, senseOf};
-ghost use Rattle.senses.specs.Senses.{senseIs};
-ghost use Rattle.senses.specs.Signs.{signedBy, signedNumber, nextSigns, SignsAre};
+ghost use Rattle.rules.specs.Combinations.{is_suitable, sense_of};
+ghost use Rattle.senses.specs.Senses.{sense_is};
+ghost use Rattle.senses.specs.Signs.{signed_by, signed_number, next_signs, SignsAre};
 
 use crate::Sense;
 use arithmetic::Fraction;
@@ -17,7 +17,7 @@ pub struct Signs {
 
 // The numerator of a multiplier times the sign of its row's sense: for an L row it is negated.
 fn signed_multiplier(sense: Sense, factor: Fraction) -> i64
-    ensures { result ≡ signedNumber (senseIs sense) factor }
+    ensures { result ≡ signed_number (sense_is sense) factor }
 {
     let m = factor.num;
     let n = m as i64;
@@ -41,7 +41,7 @@ impl Signs {
 
     // The next signs: these and those of one more multiplier, of a row with this sense.
     pub fn next(self, sense: Sense, factor: Fraction) -> Self
-        ensures { result ≡ nextSigns self (signedBy (senseIs sense) factor) }
+        ensures { result ≡ next_signs self (signed_by (sense_is sense) factor) }
     {
         let n = signed_multiplier(sense, factor);
         Signs {
@@ -52,14 +52,14 @@ impl Signs {
 
     // Whether multipliers with these signs are suitable.
     pub fn are_suitable(self) -> bool
-        ensures { (tree : Tree) (ms : List Multiplier) → SignsAre tree ms self → result ≡ isSuitable tree ms }
+        ensures { (tree : Tree) (ms : List Multiplier) → SignsAre tree ms self → result ≡ is_suitable tree ms }
     {
         self.nonnegative | self.nonpositive
     }
 
     // The sense of a suitable combination whose multipliers have these signs.
     pub fn sense(self) -> Sense
-        ensures { (tree : Tree) (ms : List Multiplier) → SignsAre tree ms self → senseIs result ≡ senseOf tree ms }
+        ensures { (tree : Tree) (ms : List Multiplier) → SignsAre tree ms self → sense_is result ≡ sense_of tree ms }
     {
         if self.nonnegative {
             if self.nonpositive {

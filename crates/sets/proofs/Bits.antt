@@ -11,21 +11,21 @@ use lib.Pow.{pow_pos, pow-lt, pow-add, ones_split, high, split, le_ones, shr_lt,
 use lib.Bits.{bit_and, bit_or, and_step, or_step, and_shr, or_shr}
 use lib.Dec.{lit<, eqb, ltb}
 use Rattle.sets.specs.Sets.{bit, one}
-use Rattle.sets.specs.SetsLaws.{bit-lt, bit-zero}
+use Rattle.sets.specs.SetsLaws.{bit_lt, bit-zero}
 
 -- ---- | and &
 
-or-odd : (a b : ℕ) → bit_or a b % 2 ≡ max (a % 2) (b % 2)
-or-odd a b = omega (arith, or_step a b)
+or_odd : (a b : ℕ) → bit_or a b % 2 ≡ max (a % 2) (b % 2)
+or_odd a b = omega (arith, or_step a b)
 
-and-odd : (a b : ℕ) → bit_and a b % 2 ≡ min (a % 2) (b % 2)
-and-odd a b = omega (arith, and_step a b)
+and_odd : (a b : ℕ) → bit_and a b % 2 ≡ min (a % 2) (b % 2)
+and_odd a b = omega (arith, and_step a b)
 
 pub bit-or : (a b k : ℕ) → bit (bit_or a b) k ≡ max (bit a k) (bit b k)
-bit-or a b k = ap (λ (x : ℕ). x % 2) (or_shr a b k) ∙ or-odd (a / 2 ^ k) (b / 2 ^ k)
+bit-or a b k = ap (λ (x : ℕ). x % 2) (or_shr a b k) ∙ or_odd (a / 2 ^ k) (b / 2 ^ k)
 
 bit-and : (a b k : ℕ) → bit (bit_and a b) k ≡ min (bit a k) (bit b k)
-bit-and a b k = ap (λ (x : ℕ). x % 2) (and_shr a b k) ∙ and-odd (a / 2 ^ k) (b / 2 ^ k)
+bit-and a b k = ap (λ (x : ℕ). x % 2) (and_shr a b k) ∙ and_odd (a / 2 ^ k) (b / 2 ^ k)
 
 -- ---- ! of a mask of w bits
 
@@ -56,7 +56,7 @@ pub bit-without : (a b j : ℕ) → a < 2 ^ 64 → b < 2 ^ 64 → bit (bit_and a
 bit-without a b j p q = bit-and a (2 ^ 64 - 1 - b) j ∙ go (dec_lt j 64)
   where
     go : Dec (j < 64) → min (bit a j) (bit (2 ^ 64 - 1 - b) j) ≡ bit a j - bit b j
-    go (yes h) = omega (arith, bit_not 64 j b h q, bit-lt a j, bit-lt b j)
+    go (yes h) = omega (arith, bit_not 64 j b h q, bit_lt a j, bit_lt b j)
     go (no h) = omega (arith, bit_high a j p (omega arith))
 
 -- ---- 1 << k
@@ -65,8 +65,8 @@ pow_even : (d : ℕ) → 0 < d → 2 ^ d % 2 ≡ 0
 pow_even zero h = omega arith
 pow_even (suc e) h = ap (λ (x : ℕ). x % 2) (pow-suc 2 e) ∙ mul-mod_left (2 ^ e) 2
 
-bit-pow-above : (j k : ℕ) → j < k → bit (2 ^ k) j ≡ 0
-bit-pow-above j k h =
+bit-pow_above : (j k : ℕ) → j < k → bit (2 ^ k) j ≡ 0
+bit-pow_above j k h =
     let e : k ≡ (k - j) + j = omega arith in
     ap (λ (x : ℕ). 2 ^ x / 2 ^ j % 2) e ∙ ap (λ (x : ℕ). x / 2 ^ j % 2) (pow-add 2 (k - j) j) ∙ ap (λ (x : ℕ). x % 2) (mul-div_cancel (2 ^ (k - j)) (pow_pos j)) ∙ pow_even (k - j) (omega arith)
 
@@ -74,7 +74,7 @@ bit-pow : (j k : ℕ) → bit (2 ^ k) j ≡ one (eqb j k)
 bit-pow j k = go (eqb j k) refl
   where
     other : (j ≡ k → ⊥) → Dec (j < k) → bit (2 ^ k) j ≡ 0
-    other ne (yes h) = bit-pow-above j k h
+    other ne (yes h) = bit-pow_above j k h
     other ne (no h) = ap (λ (x : ℕ). x % 2) (div-eq_of_lt (pow-lt (omega arith)))
 
     go : (t : Bool) → eqb j k ≡ t → bit (2 ^ k) j ≡ one t
@@ -90,10 +90,10 @@ and-false true b e = sym e
 and-false false b e = refl
 
 -- 1 << k at 64 bits, as the code computes it
-pub bit-single : (k : ℕ) → k < 64 → (j : ℕ) → bit ((1 * 2 ^ k) % 2 ^ 64) j ≡ one (eqb j k && ltb k 64)
-bit-single k h j =
+pub bit_single : (k : ℕ) → k < 64 → (j : ℕ) → bit ((1 * 2 ^ k) % 2 ^ 64) j ≡ one (eqb j k && ltb k 64)
+bit_single k h j =
     ap (λ (x : ℕ). bit x j) (shl_exact 1 k 64 (lit< tt) (omega arith) ∙ one-mul (2 ^ k)) ∙ bit-pow j k ∙ ap one (and-true (eqb j k) (ltb k 64) (lt-ltb k 64 h))
 
 -- no mask has 64 or more
-pub bit-none : (k : ℕ) → 64 ≤ k → (j : ℕ) → bit 0 j ≡ one (eqb j k && ltb k 64)
-bit-none k h j = bit-zero j ∙ ap one (and-false (eqb j k) (ltb k 64) (le-ltb k 64 h))
+pub bit_none : (k : ℕ) → 64 ≤ k → (j : ℕ) → bit 0 j ≡ one (eqb j k && ltb k 64)
+bit_none k h j = bit-zero j ∙ ap one (and-false (eqb j k) (ltb k 64) (le-ltb k 64 h))

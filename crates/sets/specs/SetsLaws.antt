@@ -6,8 +6,8 @@ use Rattle.std.proofs.Math.Nat.{mod-one, div-eq_of_lt}
 use Rattle.std.proofs.lemmas.Nat.{mod-pow-add}
 use Rattle.sets.specs.Sets.{bit}
 
-pub bit-lt : (m k : ℕ) → bit m k < 2
-bit-lt m k = omega arith
+pub bit_lt : (m k : ℕ) → bit m k < 2
+bit_lt m k = omega arith
 
 -- the empty set
 pub bit-zero : (k : ℕ) → bit 0 k ≡ 0

@@ -7,7 +7,7 @@ use Prim.Native.Nat.{ℕ, ◌+◌, ◌≤◌, ◌<◌}
 use native.Mathlib.Numerals.{add-one}
 use lib.ListN.{length, drop, get_or, drop_of_length-le}
 use lib.Seq.{drop-cons}
-use Rattle.rules.specs.Tests.{someOf}
+use Rattle.rules.specs.Tests.{some_of}
 use Rattle.rules.specs.Result.{Result, done, refused, Verdict, fine, bind, ◌andThen◌, each, collect}
 
 drop-next : {A : Type 0} (xs : List A) (r : ℕ) (d : A) → r < length xs → drop r xs ≡ get_or xs r d ∷ drop (r + 1) xs
@@ -21,12 +21,12 @@ module _ {A : Type 0} (check : A → Verdict) (xs : List A) where
   Checking r = each check (drop r xs) ≡ each check xs
 
   -- by what comes of number r
-  pub checking-is : {r : ℕ} (d : A) → r < length xs → Checking r → {v : Verdict} → check (get_or xs r d) ≡ v → (v and_then each check (drop (r + 1) xs)) ≡ each check xs
-  checking-is {r} d h g e =
+  pub checking_is : {r : ℕ} (d : A) → r < length xs → Checking r → {v : Verdict} → check (get_or xs r d) ≡ v → (v and_then each check (drop (r + 1) xs)) ≡ each check xs
+  checking_is {r} d h g e =
       sym (ap (λ (v : Verdict). v and_then each check (drop (r + 1) xs)) e) ∙ sym (ap (each check) (drop-next xs r d h)) ∙ g
 
-  pub checking-end : {r : ℕ} → length xs ≤ r → Checking r → fine ≡ each check xs
-  checking-end h g = sym (ap (each check) (drop_of_length-le xs h)) ∙ g
+  pub checking_end : {r : ℕ} → length xs ≤ r → Checking r → fine ≡ each check xs
+  checking_end h g = sym (ap (each check) (drop_of_length-le xs h)) ∙ g
 
 -- ---- what comes of each
 
@@ -47,26 +47,26 @@ module _ {A B : Type 0} (f : A → Result B) (xs : List A) where
 
   module _ (before : List B) {r : ℕ} (d : A) (h : r < length xs) (g : Collecting before r) where
     -- by what comes of number r
-    pub collecting-is : {o : Result B} → f (get_or xs r d) ≡ o
+    pub collecting_is : {o : Result B} → f (get_or xs r d) ≡ o
         → bind (bind o (λ y. bind (collect f (drop (r + 1) xs)) (λ ys. done (y ∷ ys)))) (λ ys. done (before ++ ys)) ≡ collect f xs
-    collecting-is e =
+    collecting_is e =
         sym (ap (λ (o : Result B). bind (bind o (λ y. bind (collect f (drop (r + 1) xs)) (λ ys. done (y ∷ ys)))) (λ ys. done (before ++ ys))) e)
         ∙ sym (ap (λ (l : List A). bind (collect f l) (λ ys. done (before ++ ys))) (drop-next xs r d h))
         ∙ g
 
-    pub collecting-on : {y : B} → f (get_or xs r d) ≡ done y → Collecting (before ++ (y ∷ [])) (r + 1)
-    collecting-on {y} e = sym (go (collect f (drop (r + 1) xs))) ∙ collecting-is e
+    pub collecting_on : {y : B} → f (get_or xs r d) ≡ done y → Collecting (before ++ (y ∷ [])) (r + 1)
+    collecting_on {y} e = sym (go (collect f (drop (r + 1) xs))) ∙ collecting_is e
       where
         go : (o : Result (List B)) → bind (bind o (λ ys. done (y ∷ ys))) (λ ys. done (before ++ ys)) ≡ bind o (λ ys. done ((before ++ (y ∷ [])) ++ ys))
         go (done ys) = ap done (sym (append_assoc before (y ∷ []) ys))
         go (refused reason place) = refl
 
-  pub collecting-end : (before : List B) {r : ℕ} → length xs ≤ r → Collecting before r → collect f xs ≡ done before
-  collecting-end before h g =
+  pub collecting_end : (before : List B) {r : ℕ} → length xs ≤ r → Collecting before r → collect f xs ≡ done before
+  collecting_end before h g =
       sym g ∙ ap (λ (l : List A). bind (collect f l) (λ ys. done (before ++ ys))) (drop_of_length-le xs h) ∙ ap done (append-nil before)
 
 -- ---- one more
 
-pub some_more : {A : Type 0} (test : A → Bool) (xs : List A) (x : A) → someOf test (xs ++ (x ∷ [])) ≡ (someOf test xs || test x)
+pub some_more : {A : Type 0} (test : A → Bool) (xs : List A) (x : A) → some_of test (xs ++ (x ∷ [])) ≡ (some_of test xs || test x)
 some_more test [] x = or-false (test x)
-some_more test (y ∷ xs) x = ap (λ (b : Bool). test y || b) (some_more test xs x) ∙ sym (or_assoc (test y) (someOf test xs) (test x))
+some_more test (y ∷ xs) x = ap (λ (b : Bool). test y || b) (some_more test xs x) ∙ sym (or_assoc (test y) (some_of test xs) (test x))

@@ -3,9 +3,9 @@ ghost use Rattle.std.specs.Prelude.{◌≡◌, ◌≤◌, ◌<◌};
 ghost use Rattle.grammar.specs.Tree.{Row, Solution, Tree};
 ghost use Rattle.rules.specs.Result.{each};
 ghost use Rattle.rules.specs.Rows.{variables};
-ghost use Rattle.rules.specs.Solutions.{checkRow, checkSolution};
-ghost use Rattle.encoding.specs.Encodes.{EncodesRow, solutionAt, Encodes};
-ghost use Rattle.verdicts.specs.Verdicts.{verdictSays};
+ghost use Rattle.rules.specs.Solutions.{check_row, check_solution};
+ghost use Rattle.encoding.specs.Encodes.{EncodesRow, solution_at, Encodes};
+ghost use Rattle.verdicts.specs.Verdicts.{verdict_says};
 ghost use Rattle.solutions.specs.Points.{IsPoint, whole_at};
 
 use crate::points;
@@ -28,7 +28,7 @@ fn check_row<'a>(
     dens: &'a [i32; 256],
     place: usize,
 ) -> Verdict
-    ensures { (tree : Tree) (s : Solution) (row : Row) → variables tree ≤ 256 → IsPoint nums.now dens.now s → place ≡ s.name.place → EncodesRow tree index.now values.now rows.now objective r row → verdictSays result ≡ checkRow tree s row }
+    ensures { (tree : Tree) (s : Solution) (row : Row) → variables tree ≤ 256 → IsPoint nums.now dens.now s → place ≡ s.name.place → EncodesRow tree index.now values.now rows.now objective r row → verdict_says result ≡ check_row tree s row }
 {
     let row = encoded::row_at(index, values, rows, objective, r);
     let Arithmetic::Value(left) = points::left_at(index, values, row.terms, nums, dens) else {
@@ -52,7 +52,7 @@ fn check_rows<'a>(
     dens: &'a [i32; 256],
     place: usize,
 ) -> Verdict
-    ensures { (tree : Tree) (s : Solution) → Encodes tree header index.now values.now rows.now → IsPoint nums.now dens.now s → place ≡ s.name.place → verdictSays result ≡ each (checkRow tree s) tree.constraints.rows }
+    ensures { (tree : Tree) (s : Solution) → Encodes tree header index.now values.now rows.now → IsPoint nums.now dens.now s → place ≡ s.name.place → verdict_says result ≡ each (check_row tree s) tree.constraints.rows }
 {
     let given = header.given;
     let mut r = 0;
@@ -73,7 +73,7 @@ fn check_whole<'a>(
     dens: &'a [i32; 256],
     place: usize,
 ) -> Verdict
-    ensures { (s : Solution) → IsPoint nums.now dens.now s → place ≡ s.name.place → verdictSays result ≡ each (whole_at s) integers.now }
+    ensures { (s : Solution) → IsPoint nums.now dens.now s → place ≡ s.name.place → verdict_says result ≡ each (whole_at s) integers.now }
 {
     let mut k = 0;
     while k < integers.len() {
@@ -89,7 +89,7 @@ fn check_whole<'a>(
 
 // "values of integer variables are whole, else 9; then each given row in order".
 fn check_solution(index: &[u16], values: &[i32], rows: &[u16], header: Header, j: usize) -> Verdict
-    ensures { (tree : Tree) → Encodes tree header index.now values.now rows.now → j < header.solutions → verdictSays result ≡ checkSolution tree (solutionAt tree j) }
+    ensures { (tree : Tree) → Encodes tree header index.now values.now rows.now → j < header.solutions → verdict_says result ≡ check_solution tree (solution_at tree j) }
 {
     let place = tables::solution_at(rows, j).place;
     let point = points::point_of(index, values, rows, j);
@@ -103,7 +103,7 @@ fn check_solution(index: &[u16], values: &[i32], rows: &[u16], header: Header, j
 
 // "For each solution in order".
 pub fn check_solutions(index: &[u16], values: &[i32], rows: &[u16], header: Header) -> Verdict
-    ensures { (tree : Tree) → Encodes tree header index.now values.now rows.now → verdictSays result ≡ each (checkSolution tree) tree.solutions.solutions }
+    ensures { (tree : Tree) → Encodes tree header index.now values.now rows.now → verdict_says result ≡ each (check_solution tree) tree.solutions.solutions }
 {
     let count = header.solutions;
     let mut j = 0;

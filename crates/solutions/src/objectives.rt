@@ -1,13 +1,13 @@
 // The objectives of the solutions: the best of them, and whether one reaches a bound.
 ghost use Rattle.std.specs.Prelude.{◌≡◌, List, [], ◌∷◌, ◌++◌, ◌<◌};
-ghost use Rattle.arithmetic.specs.Fraction.{IsFraction, arithmeticSays};
+ghost use Rattle.arithmetic.specs.Fraction.{IsFraction, arithmetic_says};
 ghost use Rattle.arithmetic.specs.declared.Fraction.{Fraction as FractionOf};
 ghost use Rattle.grammar.specs.Tree.{Direction, Tree};
 ghost use Rattle.rules.specs.Values.{within12};
 ghost use Rattle.rules.specs.Rows.{objective};
-ghost use Rattle.rules.specs.Solutions.{towards, leftSide};
-ghost use Rattle.senses.specs.Senses.{senseIs};
-ghost use Rattle.encoding.specs.Encodes.{solutionAt, Encodes};
+ghost use Rattle.rules.specs.Solutions.{towards, left_side};
+ghost use Rattle.senses.specs.Senses.{sense_is};
+ghost use Rattle.encoding.specs.Encodes.{solution_at, Encodes};
 ghost use Rattle.solutions.specs.Objectives.{BestIs, ObjectivesSay};
 
 use crate::points;
@@ -32,7 +32,7 @@ pub enum Objectives {
 
 // The objective of solution j.
 fn objective_at(index: &[u16], values: &[i32], rows: &[u16], header: Header, j: usize) -> Arithmetic
-    ensures { (tree : Tree) → Encodes tree header index.now values.now rows.now → j < header.solutions → within12 (solutionAt tree j).name.place (arithmeticSays result) ≡ leftSide (solutionAt tree j).name.place (solutionAt tree j).values.terms (objective tree) }
+    ensures { (tree : Tree) → Encodes tree header index.now values.now rows.now → j < header.solutions → within12 (solution_at tree j).name.place (arithmetic_says result) ≡ left_side (solution_at tree j).name.place (solution_at tree j).values.terms (objective tree) }
 {
     let point = points::point_of(index, values, rows, j);
     points::left_at(index, values, header.objective, &point.nums, &point.dens)
@@ -40,7 +40,7 @@ fn objective_at(index: &[u16], values: &[i32], rows: &[u16], header: Header, j: 
 
 // One objective more; this sense is that of being as good.
 fn with_objective(sense: Sense, best: Best, bound: Fraction, o: Fraction) -> Best
-    ensures { (d : Direction) (os : List FractionOf) → senseIs sense ≡ towards d → IsFraction bound → IsFraction o → BestIs d bound os best → BestIs d bound (os ++ (o ∷ [])) result }
+    ensures { (d : Direction) (os : List FractionOf) → sense_is sense ≡ towards d → IsFraction bound → IsFraction o → BestIs d bound os best → BestIs d bound (os ++ (o ∷ [])) result }
 {
     let reached = best.reached | senses::holds(sense, o, bound);
     let keep = best.any & senses::holds(sense, best.value, o);

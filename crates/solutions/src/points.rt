@@ -1,11 +1,11 @@
 // The points that solutions are, and left sides at them.
 ghost use Rattle.std.specs.Prelude.{◌≡◌, List, ℕ, ◌≤◌};
-ghost use Rattle.arithmetic.specs.Fraction.{arithmeticSays};
+ghost use Rattle.arithmetic.specs.Fraction.{arithmetic_says};
 ghost use Rattle.grammar.specs.Tree.{Term, Solution};
 ghost use Rattle.rules.specs.Values.{within12};
-ghost use Rattle.rules.specs.Solutions.{leftSide};
+ghost use Rattle.rules.specs.Solutions.{left_side};
 ghost use Rattle.rules.specs.Sentence.Formed.{Formed};
-ghost use Rattle.encoding.specs.Places.{termsAt};
+ghost use Rattle.encoding.specs.Places.{terms_at};
 ghost use Rattle.encoding.specs.Encodes.{EncodesSolution};
 ghost use Rattle.solutions.specs.Points.{IsPoint};
 
@@ -34,7 +34,7 @@ pub(crate) fn left_at<'a>(
     nums: &'a [i32; 256],
     dens: &'a [i32; 256],
 ) -> Arithmetic
-    ensures { (n : ℕ) (s : Solution) (ts : List Term) → n ≤ 256 → IsPoint nums.now dens.now s → termsAt index.now values.now terms ≡ ts → Formed n ts → within12 s.name.place (arithmeticSays result) ≡ leftSide s.name.place s.values.terms ts }
+    ensures { (n : ℕ) (s : Solution) (ts : List Term) → n ≤ 256 → IsPoint nums.now dens.now s → terms_at index.now values.now terms ≡ ts → Formed n ts → within12 s.name.place (arithmetic_says result) ≡ left_side s.name.place s.values.terms ts }
 {
     linear::points::left_of(
         tables::indices_of(index, terms),

@@ -8,14 +8,14 @@ use Rattle.text.specs.Bytes.{Bytes}
 use Rattle.text.specs.Tokens.{rest}
 use Rattle.grammar.specs.Format.{Symbol, Format, symbol, then, nothing, view}
 use Rattle.grammar.specs.Reading.{Read}
-use Rattle.grammar.specs.Layout.{symbolValues}
+use Rattle.grammar.specs.Layout.{symbol_values}
 use Rattle.grammar.specs.declared.Refusal.{Refusal}
 use Rattle.symbol_reader.specs.Steps.{State, state, Room, Went, Answers, Reads, any}
 use Rattle.symbol_reader.specs.Follows.{Always, ForValue, Answering, Follows, Tells, carried, refused, Is, Refusing, Refuses}
 use Rattle.symbol_reader.specs.declared.Cursor.{Cursor}
 use Rattle.symbol_reader.specs.declared.Step.{Step}
 use Rattle.symbol_reader.specs.declared.Step.TheVariants.{Next, Stop}
-use Rattle.symbol_reader.proofs.Laws.{reads-next, reads_on, nothing-went, then-stop, then-reads, view-reads, value-next}
+use Rattle.symbol_reader.proofs.Laws.{reads_next, reads_on, nothing_went, then_stop, then_reads, view_reads, value-next}
 
 -- ---- the answer that is read on from
 
@@ -40,36 +40,36 @@ module _ {A : Type 0} {Q : ℕ → State → Type 0} {F : ℕ → Format A} {tol
       go (Stop q p) h = h
 
 -- a refusal that is handed on
-pub follows-stop : {A : Type 0} {Q : ℕ → State → Type 0} {F : ℕ → Format A} {told : A → ℕ → Type 0} {text : Bytes} {s : Step} {ix : List ℕ} {vs : List ℤ} {rs : List ℕ} {q : Refusal} {p : ℕ} → s ≡ Stop q p → Follows Q F told text s ix vs rs ix vs rs s
-follows-stop e = follows_by e (record { is = (e, refl, refl, refl) })
+pub follows_stop : {A : Type 0} {Q : ℕ → State → Type 0} {F : ℕ → Format A} {told : A → ℕ → Type 0} {text : Bytes} {s : Step} {ix : List ℕ} {vs : List ℤ} {rs : List ℕ} {q : Refusal} {p : ℕ} → s ≡ Stop q p → Follows Q F told text s ix vs rs ix vs rs s
+follows_stop e = follows_by e (record { is = (e, refl, refl, refl) })
 
 -- from a number that is known
-pub follows-at : {A : Type 0} {Q : ℕ → State → Type 0} {F : ℕ → Format A} {told : A → ℕ → Type 0} {text : Bytes} {n : ℕ} {c : Cursor} {ix : List ℕ} {vs : List ℤ} {rs : List ℕ} {ix' : List ℕ} {vs' : List ℤ} {rs' : List ℕ} {r : Step}
+pub follows_at : {A : Type 0} {Q : ℕ → State → Type 0} {F : ℕ → Format A} {told : A → ℕ → Type 0} {text : Bytes} {n : ℕ} {c : Cursor} {ix : List ℕ} {vs : List ℤ} {rs : List ℕ} {ix' : List ℕ} {vs' : List ℤ} {rs' : List ℕ} {r : Step}
     → Follows Q F told text (Next n c) ix vs rs ix' vs' rs' r → Follows Q (λ i. F n) told text (Next n c) ix vs rs ix' vs' rs' r
-follows-at h = record { is = h.is }
+follows_at h = record { is = h.is }
 
 -- nothing is due
 pub follows_nothing : {Q : ℕ → State → Type 0} {text : Bytes} {n : ℕ} {c : Cursor} {ix : List ℕ} {vs : List ℤ} {rs : List ℕ} → Follows Q (λ i. nothing) any text (Next n c) ix vs rs ix vs rs (Next n c)
-follows_nothing = record { is = λ room q. reads-next tt (nothing-went room) }
+follows_nothing = record { is = λ room q. reads_next tt (nothing_went room) }
 
 -- ---- the same under another type, and what the number says
 
 module _ {Q : ℕ → State → Type 0} {text : Bytes} {s : Step} {ix : List ℕ} {vs : List ℤ} {rs : List ℕ} {ix' : List ℕ} {vs' : List ℤ} {rs' : List ℕ} {r : Step} where
-  pub follows-as : {A : Type 0} {F : ℕ → Format A} {B : Type 0} {G : ℕ → Format B} {told : A → ℕ → Type 0} {tells : B → ℕ → Type 0}
+  pub follows_as : {A : Type 0} {F : ℕ → Format A} {B : Type 0} {G : ℕ → Format B} {told : A → ℕ → Type 0} {tells : B → ℕ → Type 0}
       → ((n : ℕ) (x : State) → Room text x → Reads (F n) told text x ix' vs' rs' r → Reads (G n) tells text x ix' vs' rs' r) → Follows Q F told text s ix vs rs ix' vs' rs' r → Follows Q G tells text s ix vs rs ix' vs' rs' r
-  follows-as {F = F} {G = G} {told} {tells} turn h = record { is = go s h.is }
+  follows_as {F = F} {G = G} {told} {tells} turn h = record { is = go s h.is }
     where
       go : (x : Step) → Answering Q F told text x ix vs rs ix' vs' rs' r → Answering Q G tells text x ix vs rs ix' vs' rs' r
       go (Next n c) h = λ room q. turn n (state c ix vs rs) room (h room q)
       go (Stop q p) h = h
 
-  pub view-follows : {A : Type 0} {F : ℕ → Format A} {B : Type 0} {to : A → B} {from : B → A} {p : (a : A) → from (to a) ≡ a} {q : (b : B) → to (from b) ≡ b} {told : A → ℕ → Type 0} {tells : B → ℕ → Type 0}
+  pub view_follows : {A : Type 0} {F : ℕ → Format A} {B : Type 0} {to : A → B} {from : B → A} {p : (a : A) → from (to a) ≡ a} {q : (b : B) → to (from b) ≡ b} {told : A → ℕ → Type 0} {tells : B → ℕ → Type 0}
       → ((a : A) (n : ℕ) → told a n → tells (to a) n) → Follows Q F told text s ix vs rs ix' vs' rs' r → Follows Q (λ n. view to from p q (F n)) tells text s ix vs rs ix' vs' rs' r
-  view-follows turn h = follows-as (λ n x room k. view-reads turn k) h
+  view_follows turn h = follows_as (λ n x room k. view_reads turn k) h
 
   -- from what the answer's number says, and what is known of the answer
-  pub follows-told : {A : Type 0} {F : ℕ → Format A} {told tells : A → ℕ → Type 0} → ((a : A) (n : ℕ) (c : Cursor) → r ≡ Next n c → told a n → tells a n) → Follows Q F told text s ix vs rs ix' vs' rs' r → Follows Q F tells text s ix vs rs ix' vs' rs' r
-  follows-told {F = F} {told} {tells} turn h = follows-as (λ n x room k. record { is = go n x r refl k.is }) h
+  pub follows_told : {A : Type 0} {F : ℕ → Format A} {told tells : A → ℕ → Type 0} → ((a : A) (n : ℕ) (c : Cursor) → r ≡ Next n c → told a n → tells a n) → Follows Q F told text s ix vs rs ix' vs' rs' r → Follows Q F tells text s ix vs rs ix' vs' rs' r
+  follows_told {F = F} {told} {tells} turn h = follows_as (λ n x room k. record { is = go n x r refl k.is }) h
     where
       go : (n : ℕ) (x : State) (z : Step) → r ≡ z → Answers (F n) told text x ix' vs' rs' z → Answers (F n) tells text x ix' vs' rs' z
       go n x (Next m c) e w = (w.0, turn w.0 m c e w.1, w.2)
@@ -85,13 +85,13 @@ module _ {Q : ℕ → State → Type 0} {text : Bytes} {s : Step} {ix : List ℕ
       answer n x (Next m d) (Stop a b) p q k w = w
       answer n x (Stop a b) y p q k w = subst (Answers (F n) (λ a i. tells (part a) i) text x ix' vs' rs') (sym k.0) (subst (Answers (F n) told text x ix' vs' rs') k.0 w)
 
-      stop-carried : (z : Step) (a : Refusal) (b : ℕ) → carried z (Stop a b) ≡ Stop a b
-      stop-carried (Next m d) a b = refl
-      stop-carried (Stop q p) a b = refl
+      stop_carried : (z : Step) (a : Refusal) (b : ℕ) → carried z (Stop a b) ≡ Stop a b
+      stop_carried (Next m d) a b = refl
+      stop_carried (Stop q p) a b = refl
 
       go : (x : Step) → Answering Q F told text x ix vs rs ix' vs' rs' r → Answering Q F (λ a i. tells (part a) i) text x ix vs rs ix' vs' rs' (carried o r)
       go (Next n c) h = λ room q. record { is = answer n (state c ix vs rs) o r refl refl stays.is (h room q).is }
-      go (Stop a b) h = (ap (carried o) h.0 ∙ stop-carried o a b, h.1, h.2, h.3)
+      go (Stop a b) h = (ap (carried o) h.0 ∙ stop_carried o a b, h.1, h.2, h.3)
 
 -- ---- one after another
 
@@ -100,11 +100,11 @@ pub record Leads {A : Type 0} (Q : ℕ → State → Type 0) (F : ℕ → Format
   pub holds : (n : ℕ) (a : A) (m : ℕ) (x y : State) → Room text x → Q n x → Went (F n) a text x y → told a m → R m y
 
 -- nothing; or that a value has room, which holds after a symbol that is no value
-pub leads-always : {A : Type 0} {Q : ℕ → State → Type 0} {F : ℕ → Format A} {told : A → ℕ → Type 0} {text : Bytes} → Leads Q F told text Always
-leads-always = record { holds = λ n a m x y room q w t. tt }
+pub leads_always : {A : Type 0} {Q : ℕ → State → Type 0} {F : ℕ → Format A} {told : A → ℕ → Type 0} {text : Bytes} → Leads Q F told text Always
+leads_always = record { holds = λ n a m x y room q w t. tt }
 
-pub leads-value : {A : Type 0} {Q : ℕ → State → Type 0} {y : ℕ → Symbol A} {told : A → ℕ → Type 0} {text : Bytes} → ((n : ℕ) (a : A) → symbolValues (y n) a ≡ []) → Leads Q (λ n. symbol (y n)) told text ForValue
-leads-value none = record { holds = λ n a m x t room q w k. value-next w (none n a) room }
+pub leads_value : {A : Type 0} {Q : ℕ → State → Type 0} {y : ℕ → Symbol A} {told : A → ℕ → Type 0} {text : Bytes} → ((n : ℕ) (a : A) → symbol_values (y n) a ≡ []) → Leads Q (λ n. symbol (y n)) told text ForValue
+leads_value none = record { holds = λ n a m x t room q w k. value-next w (none n a) room }
 
 -- what the numbers of a sequence say: that of the first, whose answer is r, and that of the second
 abbrev pub Saying : {A : Type 0} {B : A → Type 0} → (A → ℕ → Type 0) → Step → ((a : A) → B a → ℕ → Type 0) → (a : A) × B a → ℕ → Type 0
@@ -123,46 +123,46 @@ module _ {A : Type 0} {Q R : ℕ → State → Type 0} {F : ℕ → Format A} {t
           λ room q.
           let w = (h room q).is in
           let t = subst (Tells told w.0) (sym e) w.1 in
-          then-reads w.2 (λ b i l. ((m, w.1), t, l)) (k w.0 w.1 w.2.room (leads.holds n w.0 m (state c ix vs rs) (state d ix' vs' rs') room q w.2 w.1))
-      go (Next n c) (Stop q p) e h z k = λ room o. reads_on z.0 (then-stop (h room o).is)
+          then_reads w.2 (λ b i l. ((m, w.1), t, l)) (k w.0 w.1 w.2.room (leads.holds n w.0 m (state c ix vs rs) (state d ix' vs' rs') room q w.2 w.1))
+      go (Next n c) (Stop q p) e h z k = λ room o. reads_on z.0 (then_stop (h room o).is)
       go (Stop q p) y e h z k = let l = subst (Handing ix' vs' rs' ix'' vs'' rs'' r') h.0 z in (l.0, l.1 ∙ h.1, l.2 ∙ h.2, l.3 ∙ h.3)
 
   -- a refusal is handed on by the second, whatever it reads; `one` is any of those that may be kept
-  each-hands : {B : A → Type 0} {G : (a : A) → Format (B a)} {tells : (a : A) → B a → ℕ → Type 0} (one : A) → Follows Q F told text s ix vs rs ix' vs' rs' r
+  each_hands : {B : A → Type 0} {G : (a : A) → Format (B a)} {tells : (a : A) → B a → ℕ → Type 0} (one : A) → Follows Q F told text s ix vs rs ix' vs' rs' r
       → ((a : A) → Tells told a r → Follows R (λ n. G a) (tells a) text r ix' vs' rs' ix'' vs'' rs'' r') → Hands r ix' vs' rs' ix'' vs'' rs'' r'
-  each-hands {B} {G} {tells} one h k = record { is = go r (λ a t. (k a t).is) }
+  each_hands {B} {G} {tells} one h k = record { is = go r (λ a t. (k a t).is) }
     where
       go : (x : Step) → ((a : A) → Tells told a x → Answering R (λ n. G a) (tells a) text x ix' vs' rs' ix'' vs'' rs'' r') → Handing ix' vs' rs' ix'' vs'' rs'' r' x
       go (Next n c) k = tt
       go (Stop q p) k = k one tt
 
-  pub then-each : {B : A → Type 0} {G : (a : A) → Format (B a)} {tells : (a : A) → B a → ℕ → Type 0} (one : A) → Leads Q F told text R
+  pub then_each : {B : A → Type 0} {G : (a : A) → Format (B a)} {tells : (a : A) → B a → ℕ → Type 0} (one : A) → Leads Q F told text R
       → Follows Q F told text s ix vs rs ix' vs' rs' r → ((a : A) → Tells told a r → Follows R (λ n. G a) (tells a) text r ix' vs' rs' ix'' vs'' rs'' r')
       → Follows Q (λ n. then (F n) G) (Saying told r tells) text s ix vs rs ix'' vs'' rs'' r'
-  then-each one leads h k = sequence (each-hands one h k) leads h k
+  then_each one leads h k = sequence (each_hands one h k) leads h k
 
   -- the same, with the first's number handed back
-  pub carry-each : {B : A → Type 0} {G : (a : A) → Format (B a)} {tells : (a : A) → B a → ℕ → Type 0} (one : A) → Leads Q F told text R
+  pub carry_each : {B : A → Type 0} {G : (a : A) → Format (B a)} {tells : (a : A) → B a → ℕ → Type 0} (one : A) → Leads Q F told text R
       → Follows Q F told text s ix vs rs ix' vs' rs' r → ((a : A) → Tells told a r → Follows R (λ n. G a) (tells a) text r ix' vs' rs' ix'' vs'' rs'' r')
       → {r'' : Step} → r'' ≡ carried r r' → Follows Q (λ n. then (F n) G) (λ p n. told p.0 n) text s ix vs rs ix'' vs'' rs'' r''
-  carry-each one leads h k e = carries told (λ p. p.0) (λ p n t. t.1) (each-hands one h k) (sequence (each-hands one h k) leads h k) e
+  carry_each one leads h k e = carries told (λ p. p.0) (λ p n t. t.1) (each_hands one h k) (sequence (each_hands one h k) leads h k) e
 
   -- the second is read by the first's number
-  pub then-follows : {B : Type 0} {G : A → Format B} {H : ℕ → Format B} {tells : B → ℕ → Type 0} → ((a : A) (n : ℕ) → told a n → H n ≡ G a) → Leads Q F told text R
+  pub then_follows : {B : Type 0} {G : A → Format B} {H : ℕ → Format B} {tells : B → ℕ → Type 0} → ((a : A) (n : ℕ) → told a n → H n ≡ G a) → Leads Q F told text R
       → Follows Q F told text s ix vs rs ix' vs' rs' r → Follows R H tells text r ix' vs' rs' ix'' vs'' rs'' r' → Follows Q (λ n. then (F n) G) (Saying told r (λ a. tells)) text s ix vs rs ix'' vs'' rs'' r'
-  then-follows {B} {G} {H} {tells} same leads h k = sequence (hands k) leads h (λ a t. record { is = go a r t k.is })
+  then_follows {B} {G} {H} {tells} same leads h k = sequence (hands k) leads h (λ a t. record { is = go a r t k.is })
     where
       go : (a : A) (x : Step) → Tells told a x → Answering R H tells text x ix' vs' rs' ix'' vs'' rs'' r' → Answering R (λ n. G a) tells text x ix' vs' rs' ix'' vs'' rs'' r'
       go a (Next n c) t k = λ room q. subst (λ (f : Format B). Reads f tells text (state c ix' vs' rs') ix'' vs'' rs'' r') (same a n t) (k room q)
       go a (Stop q p) t k = k
 
-  pub carry-follows : {B : Type 0} {G : A → Format B} {H : ℕ → Format B} {tells : B → ℕ → Type 0} → ((a : A) (n : ℕ) → told a n → H n ≡ G a) → Leads Q F told text R
+  pub carry_follows : {B : Type 0} {G : A → Format B} {H : ℕ → Format B} {tells : B → ℕ → Type 0} → ((a : A) (n : ℕ) → told a n → H n ≡ G a) → Leads Q F told text R
       → Follows Q F told text s ix vs rs ix' vs' rs' r → Follows R H tells text r ix' vs' rs' ix'' vs'' rs'' r' → {r'' : Step} → r'' ≡ carried r r' → Follows Q (λ n. then (F n) G) (λ p n. told p.0 n) text s ix vs rs ix'' vs'' rs'' r''
-  carry-follows same leads h k e = carries told (λ p. p.0) (λ p n t. t.1) (hands k) (then-follows same leads h k) e
+  carry_follows same leads h k e = carries told (λ p. p.0) (λ p n t. t.1) (hands k) (then_follows same leads h k) e
 
 -- a refusal for want of room says more of what is kept
-pub refuses-more : {A : Type 0} {full : Cursor → Type 0} {y : Symbol A} {text : Bytes} {s : Step} {same same' : Type 0} {r : Step} → ((q : Refusal) (p : ℕ) → r ≡ Stop q p → same → same') → Refuses full y text s same r → Refuses full y text s same' r
-refuses-more {A} {full} {y} {text} {s} {same} {same'} {r} turn h = record { is = by s h.is }
+pub refuses_more : {A : Type 0} {full : Cursor → Type 0} {y : Symbol A} {text : Bytes} {s : Step} {same same' : Type 0} {r : Step} → ((q : Refusal) (p : ℕ) → r ≡ Stop q p → same → same') → Refuses full y text s same r → Refuses full y text s same' r
+refuses_more {A} {full} {y} {text} {s} {same} {same'} {r} turn h = record { is = by s h.is }
   where
     stops : (o : Read A) (z : Step) → r ≡ z → Is o z → same → same'
     stops o (Next n c) e i = absurd i

@@ -10,11 +10,11 @@ use lib.Dec.{leb, eqb}
 use lib.ListN.{length, get_or, take, length-take, drop_of_length-le}
 use lib.Seq.{slice, slice-cons}
 use borrow.Author.Tests.{le-leb, lt-leb, leb-true, leb-false}
-use Rattle.text.specs.Bytes.{Bytes, every, same, isDigit, numberAfter}
-use Rattle.grammar.specs.Reading.{isAmong}
+use Rattle.text.specs.Bytes.{Bytes, every, same, is_digit, number_after}
+use Rattle.grammar.specs.Reading.{is_among}
 use Rattle.tables.specs.Limits.{largest}
 use Rattle.symbol_reader.specs.Steps.{name_at}
-use Rattle.symbol_reader.specs.Leaves.{namesIn}
+use Rattle.symbol_reader.specs.Leaves.{names_in}
 use Rattle.symbol_reader.specs.declared.numbers.Numeral.{Numeral}
 use Rattle.symbol_reader.specs.declared.numbers.Numeral.TheVariants.{Number, NotDigits}
 
@@ -44,11 +44,11 @@ module _ {B : Type 0} {F : List ℕ → B} {l : List ℕ} {i to : ℕ} {answer :
 -- ---- a number among others
 
 -- what was found, or is one of the first and of the others
-pub found-or : (found : Bool) (x y : ℕ) (xs : List ℕ) → found || isAmong eqb x (y ∷ xs) ≡ (found || eqb x y) || isAmong eqb x xs
-found-or true x y xs = refl
-found-or false x y xs = go (eqb x y)
+pub found_or : (found : Bool) (x y : ℕ) (xs : List ℕ) → found || is_among eqb x (y ∷ xs) ≡ (found || eqb x y) || is_among eqb x xs
+found_or true x y xs = refl
+found_or false x y xs = go (eqb x y)
   where
-    go : (t : Bool) → cond t true (isAmong eqb x xs) ≡ t || isAmong eqb x xs
+    go : (t : Bool) → cond t true (is_among eqb x xs) ≡ t || is_among eqb x xs
     go true = refl
     go false = refl
 
@@ -59,49 +59,49 @@ module _ (low high b : ℕ) where
   is_below h = rw (lt-leb low b h)
 
   module _ (g : low ≤ b) where
-    pub is-above : high < b → leb low b && leb b high ≡ false
-    is-above h = rw (le-leb low b g, lt-leb b high h)
+    pub is_above : high < b → leb low b && leb b high ≡ false
+    is_above h = rw (le-leb low b g, lt-leb b high h)
 
-    pub is-between : b ≤ high → leb low b && leb b high ≡ true
-    is-between h = rw (le-leb low b g, le-leb b high h)
+    pub is_between : b ≤ high → leb low b && leb b high ≡ true
+    is_between h = rw (le-leb low b g, le-leb b high h)
 
 -- ---- the number that digits spell
 
--- `numeralOf` after digits that spell n
-abbrev pub numeralAfter : ℕ → Bytes → Numeral
-numeralAfter n w = cond (every isDigit w) (Number (min (numberAfter n w) largest)) NotDigits
+-- `numeral_of` after digits that spell n
+abbrev pub numeral_after : ℕ → Bytes → Numeral
+numeral_after n w = cond (every is_digit w) (Number (min (number_after n w) largest)) NotDigits
 
-number-grows : (n : ℕ) (w : Bytes) → n ≤ numberAfter n w
-number-grows n [] = omega arith
-number-grows n (b ∷ w) = omega (arith, number-grows (n * 10 + (b - 48)) w)
+number_grows : (n : ℕ) (w : Bytes) → n ≤ number_after n w
+number_grows n [] = omega arith
+number_grows n (b ∷ w) = omega (arith, number_grows (n * 10 + (b - 48)) w)
 
 -- a number over the largest that a cell holds may be taken for that
-number-capped : (n : ℕ) (w : Bytes) → min (numberAfter n w) largest ≡ min (numberAfter (min n largest) w) largest
-number-capped n w = go (leb n largest) refl
+number_capped : (n : ℕ) (w : Bytes) → min (number_after n w) largest ≡ min (number_after (min n largest) w) largest
+number_capped n w = go (leb n largest) refl
   where
-    go : (x : Bool) → leb n largest ≡ x → min (numberAfter n w) largest ≡ min (numberAfter (min n largest) w) largest
+    go : (x : Bool) → leb n largest ≡ x → min (number_after n w) largest ≡ min (number_after (min n largest) w) largest
     go true e = let h : min n largest ≡ n = omega (arith, leb-true n largest e) in rw h
     go false e =
         let h : min n largest ≡ largest = omega (arith, leb-false n largest e) in
-        rw h (omega (arith, leb-false n largest e, number-grows largest w, number-grows n w))
+        rw h (omega (arith, leb-false n largest e, number_grows largest w, number_grows n w))
 
-pub numeral-digit : (n b : ℕ) (w : Bytes) → isDigit b ≡ true → numeralAfter n (b ∷ w) ≡ numeralAfter (min (n * 10 + (b - 48)) largest) w
-numeral-digit n b w e = rw e (ap (λ (k : ℕ). cond (every isDigit w) (Number k) NotDigits) (number-capped (n * 10 + (b - 48)) w))
+pub numeral_digit : (n b : ℕ) (w : Bytes) → is_digit b ≡ true → numeral_after n (b ∷ w) ≡ numeral_after (min (n * 10 + (b - 48)) largest) w
+numeral_digit n b w e = rw e (ap (λ (k : ℕ). cond (every is_digit w) (Number k) NotDigits) (number_capped (n * 10 + (b - 48)) w))
 
 -- ---- a name among those of a row table, four cells for each row
 
-abbrev pub isNameIn : Bytes → Bytes → List ℕ → Bool
-isNameIn text w cells = isAmong same w (namesIn text cells)
+abbrev pub is_name_in : Bytes → Bytes → List ℕ → Bool
+is_name_in text w cells = is_among same w (names_in text cells)
 
-module _ (text w : Bytes) (rows : List ℕ) (i count : ℕ) {answer : Bool} (left : Left (isNameIn text w) rows (4 * i) (4 * count) answer) (h : i < count) (k : 4 * count ≤ length rows) where
+module _ (text w : Bytes) (rows : List ℕ) (i count : ℕ) {answer : Bool} (left : Left (is_name_in text w) rows (4 * i) (4 * count) answer) (h : i < count) (k : 4 * count ≤ length rows) where
   -- three of the row's cells are taken in
-  three-on : Left (λ xs. isNameIn text w (get_or rows (4 * i) 0 ∷ get_or rows (4 * i + 1) 0 ∷ get_or rows (4 * i + 1 + 1) 0 ∷ xs)) rows (4 * i + 1 + 1 + 1) (4 * count) answer
-  three-on = one_on (one_on (one_on left (omega arith) k) (omega arith) k) (omega arith) k
+  three_on : Left (λ xs. is_name_in text w (get_or rows (4 * i) 0 ∷ get_or rows (4 * i + 1) 0 ∷ get_or rows (4 * i + 1 + 1) 0 ∷ xs)) rows (4 * i + 1 + 1 + 1) (4 * count) answer
+  three_on = one_on (one_on (one_on left (omega arith) k) (omega arith) k) (omega arith) k
 
-  pub name-here : same w (name_at text (get_or rows (4 * i) 0) (get_or rows (4 * i + 1) 0)) ≡ true → true ≡ answer
-  name-here e = settled three-on (omega arith) k (λ xs. rw e)
+  pub name_here : same w (name_at text (get_or rows (4 * i) 0) (get_or rows (4 * i + 1) 0)) ≡ true → true ≡ answer
+  name_here e = settled three_on (omega arith) k (λ xs. rw e)
 
-  pub name-next : same w (name_at text (get_or rows (4 * i) 0) (get_or rows (4 * i + 1) 0)) ≡ false → Left (isNameIn text w) rows (4 * (i + 1)) (4 * count) answer
-  name-next e =
+  pub name_next : same w (name_at text (get_or rows (4 * i) 0) (get_or rows (4 * i + 1) 0)) ≡ false → Left (is_name_in text w) rows (4 * (i + 1)) (4 * count) answer
+  name_next e =
       let n : 4 * i + 1 + 1 + 1 + 1 ≡ 4 * (i + 1) = omega arith in
-      subst (λ (m : ℕ). Left (isNameIn text w) rows m (4 * count) answer) n (goes_on three-on (omega arith) k (λ xs. rw e))
+      subst (λ (m : ℕ). Left (is_name_in text w) rows m (4 * count) answer) n (goes_on three_on (omega arith) k (λ xs. rw e))

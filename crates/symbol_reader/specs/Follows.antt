@@ -8,7 +8,7 @@ use Rattle.text.specs.Tokens.{Stream, end, token, rest}
 use Rattle.arithmetic.specs.Outcome.{Outcome, gives, refuses}
 use Rattle.grammar.specs.Format.{Or, instead, given, Symbol, Format}
 use Rattle.grammar.specs.Reading.{Read, stopped, decode}
-use Rattle.grammar.specs.Refusals.{refusalNumber}
+use Rattle.grammar.specs.Refusals.{refusal_number}
 use Rattle.symbol_reader.specs.Steps.{State, state, Room, Reads}
 use Rattle.symbol_reader.specs.declared.Cursor.{Cursor}
 use Rattle.symbol_reader.specs.declared.Step.{Step}
@@ -37,9 +37,9 @@ abbrev pub below : ℕ → ℕ → ℕ → Type 0
 below bound a n = (a ≡ n) × (n < bound)
 
 -- the cell of the word, or the number that was read in its place, below the bound
-abbrev pub cellOr : ℕ → ℕ → Or ℕ → ℕ → Type 0
-cellOr cell bound instead n = cell ≡ n
-cellOr cell bound (given a) n = below bound a n
+abbrev pub cell_or : ℕ → ℕ → Or ℕ → ℕ → Type 0
+cell_or cell bound instead n = cell ≡ n
+cell_or cell bound (given a) n = below bound a n
 
 -- the number of an answer says this of a
 abbrev pub Tells : {A : Type 0} → (A → ℕ → Type 0) → A → Step → Type 0
@@ -55,19 +55,19 @@ carried (Stop q p) s = s
 -- ---- without room
 
 -- the number of the refusal of a token that finds no room: its own where it has one, else 1, "a table is too small"
-abbrev pub refusalOf : {A : Type 0} → Outcome A → ℕ
-refusalOf (gives a) = 1
-refusalOf (refuses r) = r
+abbrev pub refusal_of : {A : Type 0} → Outcome A → ℕ
+refusal_of (gives a) = 1
+refusal_of (refuses r) = r
 
 -- the same for the first of these tokens, with its place; "3 text ends, a token is due"
 abbrev pub refused : {A : Type 0} → Symbol A → Stream → Read A
 refused y (end size) = stopped 3 size
-refused y (token place bytes s) = stopped (refusalOf (decode y (record { place = place; bytes = bytes }))) place
+refused y (token place bytes s) = stopped (refusal_of (decode y (record { place = place; bytes = bytes }))) place
 
 -- an answer is this refusal
 abbrev pub Is : {A : Type 0} → Read A → Step → Type 0
 Is r (Next n c) = ⊥
-Is r (Stop q p) = r ≡ stopped (refusalNumber q) p
+Is r (Stop q p) = r ≡ stopped (refusal_number q) p
 
 -- by cases on the answer that it reads on from
 abbrev pub Refusing : {A : Type 0} → (Cursor → Type 0) → Symbol A → Bytes → Step → Type 0 → Step → Type 0

@@ -3,7 +3,7 @@
 use Rattle.std.specs.Prelude.{◌≡◌, Bool, false, cond, List, [], ◌∷◌, ◌⊎◌, ℕ, suc, ◌+◌, ◌-◌, ◌*◌, ◌%◌, ◌≤◌, ◌<◌, min, ltb, ℤ, length, set}
 use Rattle.std.proofs.Math.Seq.{slice}
 use Rattle.std.proofs.lemmas.List.Edits.{sets}
-use Rattle.text.specs.Bytes.{Bytes, same, every, isDigit, number_of}
+use Rattle.text.specs.Bytes.{Bytes, same, every, is_digit, number_of}
 use Rattle.text.specs.Tokens.{Token, Stream, end, token, rest}
 use Rattle.text.specs.Scans.{Found}
 use Rattle.text.specs.Words as W
@@ -12,9 +12,9 @@ use Rattle.arithmetic.specs.declared.Fraction.{Fraction}
 use Rattle.tables.specs.Limits.{largest}
 use Rattle.grammar.specs.Tree.{Direction, minimize, maximize, Sense, equal, at_most, at_least}
 use Rattle.grammar.specs.Format.{Word, Or, instead, given, Symbol}
-use Rattle.grammar.specs.Certificate.{means, ClaimWord, infeasWord, rangeWord}
+use Rattle.grammar.specs.Certificate.{means, ClaimWord, infeas_word, range_word}
 use Rattle.grammar.specs.Reading.{decode}
-use Rattle.grammar.specs.Refusals.{refusalNumber}
+use Rattle.grammar.specs.Refusals.{refusal_number}
 use Rattle.grammar.specs.declared.Refusal.TheVariants.{TableTooSmall, TokenMissing}
 use Rattle.symbol_reader.specs.Steps.{name_at}
 use Rattle.symbol_reader.specs.declared.Cursor.{Cursor}
@@ -46,8 +46,8 @@ pub record Due (text : Bytes) (s : Step) (t : Span) : Type 0 where
   pub ordered : t.from ≤ t.to
   pub inside : t.to ≤ length text
 
-abbrev pub tokenAt : Bytes → Span → Token
-tokenAt text t = record { place = t.from; bytes = slice t.from t.to text }
+abbrev pub token_at : Bytes → Span → Token
+token_at text t = record { place = t.from; bytes = slice t.from t.to text }
 
 -- the place after it, where nothing is stored
 abbrev pub past : Span → Cursor → Cursor
@@ -60,7 +60,7 @@ abbrev pub Said : {A : Type 0} → (A → ℕ) → Outcome A → Meaning → Typ
 Said of (gives a) (meaning.Number n) = of a ≡ n
 Said of (gives a) (meaning.Refused q) = ⊥
 Said of (refuses r) (meaning.Number n) = ⊥
-Said of (refuses r) (meaning.Refused q) = refusalNumber q ≡ r
+Said of (refuses r) (meaning.Refused q) = refusal_number q ≡ r
 
 pub record Means {A : Type 0} (y : Symbol A) (of : A → ℕ) (t : Token) (m : Meaning) : Type 0 where
   pub is : Said of (decode y t) m
@@ -73,15 +73,15 @@ abbrev pub directions : List (Word Direction)
 directions = means W.min minimize ∷ means W.max maximize ∷ []
 
 abbrev pub claims : List (Word ClaimWord)
-claims = means W.infeas infeasWord ∷ means W.range rangeWord ∷ []
+claims = means W.infeas infeas_word ∷ means W.range range_word ∷ []
 
 -- the number that the bytes spell, or the largest that a cell holds where it is more; or that they are no digits
-abbrev pub numeralOf : Bytes → Numeral
-numeralOf w = cond (every isDigit w) (Number (min (number_of w) largest)) NotDigits
+abbrev pub numeral_of : Bytes → Numeral
+numeral_of w = cond (every is_digit w) (Number (min (number_of w) largest)) NotDigits
 
 -- the bound of a count of at most n; no bound is above the largest number that a cell holds
-abbrev pub boundOf : ℕ → ℕ
-boundOf n = cond (ltb n largest) (suc n) largest
+abbrev pub bound_of : ℕ → ℕ
+bound_of n = cond (ltb n largest) (suc n) largest
 
 -- the first of these tokens is the word
 abbrev pub starts_with : Bytes → Stream → Bool
@@ -89,9 +89,9 @@ starts_with w (end size) = false
 starts_with w (token place bytes s) = same bytes w
 
 -- the cell of a word, or of what stands in its place
-abbrev pub orCell : {A : Type 0} → ℕ → (A → ℕ) → Or A → ℕ
-orCell cell of instead = cell
-orCell cell of (given a) = of a
+abbrev pub or_cell : {A : Type 0} → ℕ → (A → ℕ) → Or A → ℕ
+or_cell cell of instead = cell
+or_cell cell of (given a) = of a
 
 -- ---- the answer to it
 
@@ -164,17 +164,17 @@ Rowed t row rs rs' =
 -- ---- names of rows
 
 -- the names of rows that stand in a row table, four cells for each
-abbrev pub namesIn : Bytes → List ℕ → List Bytes
-namesIn text (p ∷ l ∷ c ∷ v ∷ cells) = name_at text p l ∷ namesIn text cells
-namesIn text (p ∷ l ∷ c ∷ []) = []
-namesIn text (p ∷ l ∷ []) = []
-namesIn text (p ∷ []) = []
-namesIn text [] = []
+abbrev pub names_in : Bytes → List ℕ → List Bytes
+names_in text (p ∷ l ∷ c ∷ v ∷ cells) = name_at text p l ∷ names_in text cells
+names_in text (p ∷ l ∷ c ∷ []) = []
+names_in text (p ∷ l ∷ []) = []
+names_in text (p ∷ []) = []
+names_in text [] = []
 
 -- a number of 16 bits for a name: of its bytes in order, after those that gave n
-abbrev pub fingerprintAfter : ℕ → Bytes → ℕ
-fingerprintAfter n [] = n
-fingerprintAfter n (b ∷ w) = fingerprintAfter ((n * 31 + b) % 65536) w
+abbrev pub fingerprint_after : ℕ → Bytes → ℕ
+fingerprint_after n [] = n
+fingerprint_after n (b ∷ w) = fingerprint_after ((n * 31 + b) % 65536) w
 
-unfoldable pub fingerprintOf : Bytes → ℕ
-fingerprintOf w = fingerprintAfter 0 w
+unfoldable pub fingerprint_of : Bytes → ℕ
+fingerprint_of w = fingerprint_after 0 w

@@ -3,8 +3,8 @@
 use Rattle.std.specs.Prelude.{◌≡◌, Bool, true, ◌||◌, List, ℕ, ◌*◌, ◌/◌, ◌%◌, ◌<◌, eqb, length, get_or}
 use Rattle.text.specs.Bytes.{Bytes, same}
 use Rattle.sets.specs.Sets.{bit}
-use Rattle.grammar.specs.Reading.{isAmong}
-use Rattle.symbol_reader.specs.Leaves.{fingerprintOf}
+use Rattle.grammar.specs.Reading.{is_among}
+use Rattle.symbol_reader.specs.Leaves.{fingerprint_of}
 use Rattle.symbol_reader.specs.declared.Step.{Step}
 use Rattle.symbol_reader.specs.declared.Step.TheVariants.{Next, Stop}
 
@@ -14,7 +14,7 @@ marked words n = eqb (bit (get_or words (n / 64) 0) (n % 64)) 1
 
 -- just these numbers are marked, of those that the words can mark
 pub record Marks (numbers words : List ℕ) : Type 0 where
-  pub are : (n : ℕ) → n < 64 * length words → marked words n ≡ isAmong eqb n numbers
+  pub are : (n : ℕ) → n < 64 * length words → marked words n ≡ is_among eqb n numbers
 
 -- by an answer: where it went on with a number, that one is marked besides; where it stopped, the words are kept
 abbrev pub MarksMore : List ℕ → List ℕ → Step → Type 0
@@ -22,10 +22,10 @@ MarksMore words words' (Next n c) = (k : ℕ) → k < 64 * length words → mark
 MarksMore words words' (Stop q p) = words' ≡ words
 
 -- the words that mark all fingerprints, of which there are 65,536
-abbrev pub printWords : ℕ
-printWords = 1024
+abbrev pub print_words : ℕ
+print_words = 1024
 
 -- the fingerprints of these names are marked, in words that can mark every one
 pub record Fingerprinted (names : List Bytes) (words : List ℕ) : Type 0 where
-  pub enough : length words ≡ printWords
-  pub are : (w : Bytes) → isAmong same w names ≡ true → marked words (fingerprintOf w) ≡ true
+  pub enough : length words ≡ print_words
+  pub are : (w : Bytes) → is_among same w names ≡ true → marked words (fingerprint_of w) ≡ true

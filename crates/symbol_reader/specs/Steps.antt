@@ -11,9 +11,9 @@ use Rattle.text.specs.Tokens.{rest}
 use Rattle.grammar.specs.Format.{Symbol, Format}
 use Rattle.grammar.specs.Reading.{got, stopped, read}
 use Rattle.grammar.specs.Layout.{gather, cells, values, Mark, marks}
-use Rattle.grammar.specs.Tables.{byTurns, laid}
-use Rattle.tables.specs.Limits.{indexCells, valueCells, rowCells}
-use Rattle.grammar.specs.Refusals.{refusalNumber}
+use Rattle.grammar.specs.Tables.{by_turns, laid}
+use Rattle.tables.specs.Limits.{index_cells, value_cells, row_cells}
+use Rattle.grammar.specs.Refusals.{refusal_number}
 use Rattle.symbol_reader.specs.declared.Cursor.{Cursor}
 use Rattle.symbol_reader.specs.declared.Step.{Step}
 use Rattle.symbol_reader.specs.declared.Step.TheVariants.{Next, Stop}
@@ -34,22 +34,22 @@ pub record IndexRoom (text : Bytes) (c : Cursor) (index : List ℕ) : Type 0 whe
   pub short : length text ≤ 32768
   pub inside : c.at ≤ length text + 1
   pub cells_fit : 2 * c.cells ≤ c.at
-  pub index-long : indexCells ≤ length index
+  pub index_long : index_cells ≤ length index
 
 -- each value has two tokens behind it
 pub record ValueRoom (text : Bytes) (c : Cursor) (values : List ℤ) : Type 0 where
   pub short : length text ≤ 32768
   pub inside : c.at ≤ length text + 1
-  pub values-fit : 4 * c.values ≤ c.at
-  pub values-long : valueCells ≤ length values
+  pub values_fit : 4 * c.values ≤ c.at
+  pub values_long : value_cells ≤ length values
 
 pub record RowRoom (rows : List ℕ) : Type 0 where
-  pub rows_long : rowCells ≤ length rows
+  pub rows_long : row_cells ≤ length rows
 
 pub record Room (text : Bytes) (s : State) : Type 0 where
-  pub of-index : IndexRoom text s.cursor s.index
+  pub of_index : IndexRoom text s.cursor s.index
   pub of_values : ValueRoom text s.cursor s.values
-  pub of-rows : RowRoom s.rows
+  pub of_rows : RowRoom s.rows
 
 -- ---- the contract
 
@@ -74,7 +74,7 @@ pub record Went {A : Type 0} (f : Format A) (a : A) (text : Bytes) (s t : State)
   pub cells_at : t.cursor.cells ≡ s.cursor.cells + length (cells f a)
   pub values-at : t.cursor.values ≡ s.cursor.values + length (values f a)
   pub index_is : t.index ≡ sets s.index s.cursor.cells (cells f a)
-  pub values-is : t.values ≡ sets s.values (2 * s.cursor.values) (byTurns (values f a))
+  pub values_is : t.values ≡ sets s.values (2 * s.cursor.values) (by_turns (values f a))
   pub rows_is : t.rows ≡ laid s.rows (marks f a s.cursor.cells s.cursor.values)
   pub named : Named text (marks f a s.cursor.cells s.cursor.values)
   pub ahead : s.cursor.at + 2 * tokens f a ≤ t.cursor.at
@@ -94,7 +94,7 @@ the of a n = of a ≡ n
 -- by cases on the answer
 abbrev pub Answers : {A : Type 0} → Format A → (A → ℕ → Type 0) → Bytes → State → List ℕ → List ℤ → List ℕ → Step → Type 0
 Answers {A} f told text s index values rows (Next n c) = (a : A) × told a n × Went f a text s (state c index values rows)
-Answers f told text s index values rows (Stop r p) = Stopped f text s (refusalNumber r) p
+Answers f told text s index values rows (Stop r p) = Stopped f text s (refusal_number r) p
 
 -- THE CONTRACT: r answers to reading f at s, its number says what is told, and the tables are these afterwards
 pub record Reads {A : Type 0} (f : Format A) (told : A → ℕ → Type 0) (text : Bytes) (s : State) (index : List ℕ) (values : List ℤ) (rows : List ℕ) (r : Step) : Type 0 where

@@ -2,10 +2,10 @@
 ghost use Rattle.std.specs.Prelude.{◌≡◌, List, [], ◌∷◌, ◌++◌, ℤ, length, ℕ, suc, ◌+◌, ◌*◌, ◌≤◌, ◌<◌, min};
 ghost use Rattle.std.proofs.Math.Seq.{slice};
 ghost use Rattle.grammar.specs.Format.{symbol, number, or};
-ghost use Rattle.grammar.specs.Certificate.{count_to, indexBelow, newIndexBelow};
-ghost use Rattle.symbol_reader.specs.Follows.{Always, Follows, below, cellOr, Refuses};
+ghost use Rattle.grammar.specs.Certificate.{count_to, index_below, new_index_below};
+ghost use Rattle.symbol_reader.specs.Follows.{Always, Follows, below, cell_or, Refuses};
 ghost use Rattle.symbol_reader.specs.Marks.{Marks};
-ghost use Rattle.symbol_reader.specs.Leaves.{NoCell, numeralOf, boundOf, Means, tokenAt, orCell};
+ghost use Rattle.symbol_reader.specs.Leaves.{NoCell, numeral_of, bound_of, Means, token_at, or_cell};
 ghost use Rattle.tables.specs.Limits.{largest};
 
 use crate::tokens::{Meaning, Span};
@@ -32,7 +32,7 @@ pub(crate) fn least(a: usize, b: usize) -> usize
 // The number that the token spells.
 fn spelled(text: &[u8], from: usize, to: usize) -> Numeral
     requires { to ≤ length text.now }
-    ensures { result ≡ numeralOf (slice from to text.now) }
+    ensures { result ≡ numeral_of (slice from to text.now) }
 {
     let mut n: usize = 0;
     let mut i = from;
@@ -53,7 +53,7 @@ fn spelled(text: &[u8], from: usize, to: usize) -> Numeral
 // What a token means where a number below the bound is due.
 fn number_in(text: &[u8], t: Span, bound: usize) -> Meaning
     requires { t.to ≤ length text.now }
-    ensures { t.from < t.to → bound ≤ largest → Means (number bound []) (λ n. n) (tokenAt text.now t) result }
+    ensures { t.from < t.to → bound ≤ largest → Means (number bound []) (λ n. n) (token_at text.now t) result }
 {
     let m = spelled(text, t.from, t.to);
     let Numeral::Number(n) = m else {
@@ -67,7 +67,7 @@ fn number_in(text: &[u8], t: Span, bound: usize) -> Meaning
 
 // An index below the bound is due.
 pub fn read_index(text: &[u8], s: Step, bound: usize, index: &mut [u16]) -> Step
-    ensures follows { (vs : List ℤ) (rs : List ℕ) → bound ≤ largest → Follows Always (λ _. indexBelow bound) (below bound) text.now s index.old vs rs index.new vs rs result }
+    ensures follows { (vs : List ℤ) (rs : List ℕ) → bound ≤ largest → Follows Always (λ _. index_below bound) (below bound) text.now s index.old vs rs index.new vs rs result }
     ensures refuses { bound ≤ largest → Refuses (NoCell index.old) (number bound []) text.now s (index.new ≡ index.old) result }
 {
     let t = tokens::due(text, s);
@@ -77,7 +77,7 @@ pub fn read_index(text: &[u8], s: Step, bound: usize, index: &mut [u16]) -> Step
 
 // The bound of a count of at most `most`; none is above the largest number that a cell holds.
 pub fn bound_of(most: usize) -> usize
-    ensures { result ≡ boundOf most }
+    ensures { result ≡ bound_of most }
 {
     if most < limits::LARGEST {
         return most + 1;
@@ -96,7 +96,7 @@ pub fn read_count(text: &[u8], s: Step, most: usize, index: &mut [u16]) -> Step
 // What a token means where a number below the bound is due that is not marked.
 fn new_in(text: &[u8], t: Span, bound: usize, seen: &[u64]) -> Meaning
     requires { t.to ≤ length text.now }
-    ensures { (used : List ℕ) → t.from < t.to → bound ≤ largest → bound ≤ 64 * length seen.now → Marks used seen.now → Means (number bound used) (λ n. n) (tokenAt text.now t) result }
+    ensures { (used : List ℕ) → t.from < t.to → bound ≤ largest → bound ≤ 64 * length seen.now → Marks used seen.now → Means (number bound used) (λ n. n) (token_at text.now t) result }
 {
     let m = number_in(text, t, bound);
     let Meaning::Number(n) = m else {
@@ -116,7 +116,7 @@ pub fn read_new_index(
     seen: &mut [u64],
     index: &mut [u16],
 ) -> Step
-    ensures by_index { (used : List ℕ) (vs : List ℤ) (rs : List ℕ) → bound ≤ largest → bound ≤ 64 * length seen.old → Marks used seen.old → Follows Always (λ _. newIndexBelow bound used) (λ i n. Marks (used ++ (i ∷ [])) seen.new) text.now s index.old vs rs index.new vs rs result }
+    ensures by_index { (used : List ℕ) (vs : List ℤ) (rs : List ℕ) → bound ≤ largest → bound ≤ 64 * length seen.old → Marks used seen.old → Follows Always (λ _. new_index_below bound used) (λ i n. Marks (used ++ (i ∷ [])) seen.new) text.now s index.old vs rs index.new vs rs result }
     ensures by_index_2 { (used : List ℕ) → bound ≤ largest → bound ≤ 64 * length seen.old → Marks used seen.old → Refuses (NoCell index.old) (number bound used) text.now s ((index.new ≡ index.old) × (seen.new ≡ seen.old)) result }
     ensures seen_len_unchanged { length seen.new ≡ length seen.old }
 {
@@ -130,7 +130,7 @@ pub fn read_new_index(
 // What a token means where the word, which takes this cell, or a number below the bound is due.
 fn number_or_in(text: &[u8], t: Span, word: &[u8], cell: u16, bound: usize) -> Meaning
     requires { t.to ≤ length text.now }
-    ensures { t.from < t.to → bound ≤ largest → Means (or word.now cell (number bound [])) (orCell cell (λ n. n)) (tokenAt text.now t) result }
+    ensures { t.from < t.to → bound ≤ largest → Means (or word.now cell (number bound [])) (or_cell cell (λ n. n)) (token_at text.now t) result }
 {
     if text::is_word(text, t.from, t.to, word) {
         return Meaning::Number(cell);
@@ -147,7 +147,7 @@ pub fn read_index_or(
     bound: usize,
     index: &mut [u16],
 ) -> Step
-    ensures follows { (vs : List ℤ) (rs : List ℕ) → bound ≤ largest → Follows Always (λ _. symbol (or word.now cell (number bound []))) (cellOr cell bound) text.now s index.old vs rs index.new vs rs result }
+    ensures follows { (vs : List ℤ) (rs : List ℕ) → bound ≤ largest → Follows Always (λ _. symbol (or word.now cell (number bound []))) (cell_or cell bound) text.now s index.old vs rs index.new vs rs result }
     ensures refuses { bound ≤ largest → Refuses (NoCell index.old) (or word.now cell (number bound [])) text.now s (index.new ≡ index.old) result }
 {
     let t = tokens::due(text, s);

@@ -2,11 +2,11 @@
 ghost use Rattle.std.specs.Prelude.{◌≡◌, false, ◌&&◌, List, leb, ℤ, ℕ};
 ghost use Rattle.grammar.specs.Format.{symbol, placed, choice};
 ghost use Rattle.grammar.specs.Format as F;
-ghost use Rattle.grammar.specs.Certificate.{sense, senseCell, direction, directionCell, claimCell, reasonCell, reasonWords, isAsm, one_of};
+ghost use Rattle.grammar.specs.Certificate.{sense, sense_cell, direction, direction_cell, claim_cell, reason_cell, reason_words, is_asm, one_of};
 ghost use Rattle.symbol_reader.specs.Steps.{the};
 ghost use Rattle.symbol_reader.specs.Follows.{Always, Follows, Refuses};
-ghost use Rattle.symbol_reader.specs.Leaves.{Given, Means, tokenAt, NoCell, Placed, senses, directions, claims};
-ghost use Rattle.tables.specs.Limits.{mostAssumptions};
+ghost use Rattle.symbol_reader.specs.Leaves.{Given, Means, token_at, NoCell, Placed, senses, directions, claims};
+ghost use Rattle.tables.specs.Limits.{most_assumptions};
 
 use crate::tokens::{Meaning, Span};
 use crate::{Step, stores, tokens};
@@ -16,8 +16,8 @@ use tables::limits;
 // ---- this word
 
 fn word_in(text: &[u8], t: Span, word: &[u8]) -> Meaning
-    ensures means { Means (placed word.now) (λ p. 0) (tokenAt text.now t) result }
-    ensures means_2 { Means (F.word word.now) (λ u. 0) (tokenAt text.now t) result }
+    ensures means { Means (placed word.now) (λ p. 0) (token_at text.now t) result }
+    ensures means_2 { Means (F.word word.now) (λ u. 0) (token_at text.now t) result }
 {
     if text::is_word(text, t.from, t.to, word) {
         return Meaning::Number(0);
@@ -55,7 +55,7 @@ pub fn read_placed(text: &[u8], s: Step, word: &[u8]) -> Step
 // ---- `E`, `L` or `G`
 
 fn sense_in(text: &[u8], t: Span) -> Meaning
-    ensures { Means (choice senseCell senses (λ a. false)) senseCell (tokenAt text.now t) result }
+    ensures { Means (choice sense_cell senses (λ a. false)) sense_cell (token_at text.now t) result }
 {
     if text::is_word(text, t.from, t.to, b"E") {
         return Meaning::Number(0);
@@ -71,8 +71,8 @@ fn sense_in(text: &[u8], t: Span) -> Meaning
 
 // A row's sense is due.
 pub fn read_sense(text: &[u8], s: Step, index: &mut [u16]) -> Step
-    ensures follows { (vs : List ℤ) (rs : List ℕ) → Follows Always (λ _. sense) (the senseCell) text.now s index.old vs rs index.new vs rs result }
-    ensures refuses { Refuses (NoCell index.old) (choice senseCell senses (λ a. false)) text.now s (index.new ≡ index.old) result }
+    ensures follows { (vs : List ℤ) (rs : List ℕ) → Follows Always (λ _. sense) (the sense_cell) text.now s index.old vs rs index.new vs rs result }
+    ensures refuses { Refuses (NoCell index.old) (choice sense_cell senses (λ a. false)) text.now s (index.new ≡ index.old) result }
 {
     let t = tokens::due(text, s);
     let s = tokens::passed(s, t, sense_in(text, t));
@@ -82,7 +82,7 @@ pub fn read_sense(text: &[u8], s: Step, index: &mut [u16]) -> Step
 // ---- `min` or `max`
 
 fn direction_in(text: &[u8], t: Span) -> Meaning
-    ensures { Means (choice directionCell directions (λ a. false)) directionCell (tokenAt text.now t) result }
+    ensures { Means (choice direction_cell directions (λ a. false)) direction_cell (token_at text.now t) result }
 {
     if text::is_word(text, t.from, t.to, b"min") {
         return Meaning::Number(0);
@@ -95,8 +95,8 @@ fn direction_in(text: &[u8], t: Span) -> Meaning
 
 // The objective's direction is due.
 pub fn read_direction(text: &[u8], s: Step, index: &mut [u16]) -> Step
-    ensures follows { (vs : List ℤ) (rs : List ℕ) → Follows Always (λ _. direction) (the directionCell) text.now s index.old vs rs index.new vs rs result }
-    ensures refuses { Refuses (NoCell index.old) (choice directionCell directions (λ a. false)) text.now s (index.new ≡ index.old) result }
+    ensures follows { (vs : List ℤ) (rs : List ℕ) → Follows Always (λ _. direction) (the direction_cell) text.now s index.old vs rs index.new vs rs result }
+    ensures refuses { Refuses (NoCell index.old) (choice direction_cell directions (λ a. false)) text.now s (index.new ≡ index.old) result }
 {
     let t = tokens::due(text, s);
     let s = tokens::passed(s, t, direction_in(text, t));
@@ -106,7 +106,7 @@ pub fn read_direction(text: &[u8], s: Step, index: &mut [u16]) -> Step
 // ---- `infeas` or `range`
 
 fn claim_in(text: &[u8], t: Span) -> Meaning
-    ensures { Means (choice claimCell claims (λ a. false)) claimCell (tokenAt text.now t) result }
+    ensures { Means (choice claim_cell claims (λ a. false)) claim_cell (token_at text.now t) result }
 {
     if text::is_word(text, t.from, t.to, b"infeas") {
         return Meaning::Number(0);
@@ -119,8 +119,8 @@ fn claim_in(text: &[u8], t: Span) -> Meaning
 
 // A claim's word is due.
 pub fn read_claim_word(text: &[u8], s: Step, index: &mut [u16]) -> Step
-    ensures follows { (vs : List ℤ) (rs : List ℕ) → Follows Always (λ _. one_of claimCell claims) (the claimCell) text.now s index.old vs rs index.new vs rs result }
-    ensures refuses { Refuses (NoCell index.old) (choice claimCell claims (λ a. false)) text.now s (index.new ≡ index.old) result }
+    ensures follows { (vs : List ℤ) (rs : List ℕ) → Follows Always (λ _. one_of claim_cell claims) (the claim_cell) text.now s index.old vs rs index.new vs rs result }
+    ensures refuses { Refuses (NoCell index.old) (choice claim_cell claims (λ a. false)) text.now s (index.new ≡ index.old) result }
 {
     let t = tokens::due(text, s);
     let s = tokens::passed(s, t, claim_in(text, t));
@@ -131,7 +131,7 @@ pub fn read_claim_word(text: &[u8], s: Step, index: &mut [u16]) -> Step
 
 // After as many assumptions as there may be `asm` is out of range.
 fn reason_in(text: &[u8], t: Span, assumed: usize) -> Meaning
-    ensures { Means (choice reasonCell reasonWords (λ w. isAsm w && leb mostAssumptions assumed)) reasonCell (tokenAt text.now t) result }
+    ensures { Means (choice reason_cell reason_words (λ w. is_asm w && leb most_assumptions assumed)) reason_cell (token_at text.now t) result }
 {
     if text::is_word(text, t.from, t.to, b"asm") {
         if limits::ASSUMPTIONS <= assumed {
@@ -156,8 +156,8 @@ fn reason_in(text: &[u8], t: Span, assumed: usize) -> Meaning
 
 // A reason's word is due, after so many assumptions.
 pub fn read_reason_word(text: &[u8], s: Step, assumed: usize, index: &mut [u16]) -> Step
-    ensures follows { (vs : List ℤ) (rs : List ℕ) → Follows Always (λ _. symbol (choice reasonCell reasonWords (λ w. isAsm w && leb mostAssumptions assumed))) (the reasonCell) text.now s index.old vs rs index.new vs rs result }
-    ensures refuses { Refuses (NoCell index.old) (choice reasonCell reasonWords (λ w. isAsm w && leb mostAssumptions assumed)) text.now s (index.new ≡ index.old) result }
+    ensures follows { (vs : List ℤ) (rs : List ℕ) → Follows Always (λ _. symbol (choice reason_cell reason_words (λ w. is_asm w && leb most_assumptions assumed))) (the reason_cell) text.now s index.old vs rs index.new vs rs result }
+    ensures refuses { Refuses (NoCell index.old) (choice reason_cell reason_words (λ w. is_asm w && leb most_assumptions assumed)) text.now s (index.new ≡ index.old) result }
 {
     let t = tokens::due(text, s);
     let s = tokens::passed(s, t, reason_in(text, t, assumed));

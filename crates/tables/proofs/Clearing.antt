@@ -15,8 +15,8 @@ module _ {A : Type 0} (z : A) where
     pub long : length now ≡ length before
     pub within : i ≤ length before
 
-  pub cleared-none : (l : List A) → Cleared l 0 l
-  cleared-none l = record { is = refl; long = refl; within = omega arith }
+  pub cleared_none : (l : List A) → Cleared l 0 l
+  cleared_none l = record { is = refl; long = refl; within = omega arith }
 
   one_more : (n : ℕ) (l : List A) → n < length l → set (replicate n z ++ drop n l) n z ≡ replicate (suc n) z ++ drop (suc n) l
   one_more n [] h = absurd (not-suc-le-zero h)
@@ -35,7 +35,7 @@ module _ {A : Type 0} (z : A) where
   none_left [] = refl
   none_left (x ∷ l) = ap (λ (t : List A). z ∷ t) (none_left l)
 
-  pub cleared-all : {l now : List A} {i : ℕ} → Cleared l i now → length l ≤ i → now ≡ replicate (length l) z
-  cleared-all {l} {now} {i} c h =
+  pub cleared_all : {l now : List A} {i : ℕ} → Cleared l i now → length l ≤ i → now ≡ replicate (length l) z
+  cleared_all {l} {now} {i} c h =
       let e : i ≡ length l = omega (arith, c.within) in
       c.is ∙ ap (λ (k : ℕ). replicate k z ++ drop k l) e ∙ none_left l

@@ -14,8 +14,8 @@ pub record CellIs (table : List ℕ) (i r : ℕ) : Type 0 where
   pub small : r ≤ largest
 
 -- the value with this number: "numerator, denominator by turns"; where the table does not have it, each of them is 0
-unfoldable pub fractionAt : List ℤ → ℕ → Fraction
-fractionAt values n = record { num = get_or values (2 * n) (pos 0); den = get_or values (2 * n + 1) (pos 0) }
+unfoldable pub fraction_at : List ℤ → ℕ → Fraction
+fraction_at values n = record { num = get_or values (2 * n) (pos 0); den = get_or values (2 * n + 1) (pos 0) }
 
 -- "row table .. (4 for each row)": "byte place of the name, its length, index cell where its sense stands, number of its
 -- right-hand value"
@@ -28,20 +28,20 @@ pub record EntryIs (rows : List ℕ) (r : ℕ) (e : Entry) : Type 0 where
 -- ---- storing
 
 -- a table with a number in a cell: as it was where it has no such cell, or no cell can hold the number
-unfoldable pub withCell : ℕ → ℕ → List ℕ → List ℕ
-withCell i x table = cond (leb x largest) (set table i x) table
+unfoldable pub with_cell : ℕ → ℕ → List ℕ → List ℕ
+with_cell i x table = cond (leb x largest) (set table i x) table
 
 -- the value table with the value of this number
-abbrev pub withValue : ℕ → Fraction → List ℤ → List ℤ
-withValue n f values = sets values (2 * n) (f.num ∷ f.den ∷ [])
+abbrev pub with_value : ℕ → Fraction → List ℤ → List ℤ
+with_value n f values = sets values (2 * n) (f.num ∷ f.den ∷ [])
 
 -- the row table with the entry of row r
-abbrev pub withEntry : ℕ → Entry → List ℕ → List ℕ
-withEntry r e rows =
-    withCell (4 * r + 3) e.number
-    (withCell (4 * r + 2) e.cell
-    (withCell (4 * r + 1) e.size
-    (withCell (4 * r) e.place rows)))
+abbrev pub with_entry : ℕ → Entry → List ℕ → List ℕ
+with_entry r e rows =
+    with_cell (4 * r + 3) e.number
+    (with_cell (4 * r + 2) e.cell
+    (with_cell (4 * r + 1) e.size
+    (with_cell (4 * r) e.place rows)))
 
 -- ---- parts
 

@@ -5,12 +5,12 @@ use Rattle.std.specs.Prelude.{List, [], ◌∷◌, ℕ, ◌/◌, min, ℤ, lengt
 use Rattle.arithmetic.specs.declared.Fraction.{Fraction}
 
 -- how many pairs two lists have
-abbrev pub pairsIn : List ℕ → List ℤ → ℕ
-pairsIn indices values = min (length indices) (length values / 2)
+abbrev pub pairs_in : List ℕ → List ℤ → ℕ
+pairs_in indices values = min (length indices) (length values / 2)
 
 -- each index with its value, in order, of as many as there are of both
-unfoldable pub listedIn : {A : Type 0} → (ℕ → Fraction → A) → List ℕ → List ℤ → List A
-listedIn make [] values = []
-listedIn make (i ∷ indices) [] = []
-listedIn make (i ∷ indices) (n ∷ []) = []
-listedIn make (i ∷ indices) (n ∷ d ∷ values) = make i (record { num = n; den = d }) ∷ listedIn make indices values
+unfoldable pub listed_in : {A : Type 0} → (ℕ → Fraction → A) → List ℕ → List ℤ → List A
+listed_in make [] values = []
+listed_in make (i ∷ indices) [] = []
+listed_in make (i ∷ indices) (n ∷ []) = []
+listed_in make (i ∷ indices) (n ∷ d ∷ values) = make i (record { num = n; den = d }) ∷ listed_in make indices values

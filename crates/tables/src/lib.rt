@@ -2,9 +2,9 @@
 // cleared, and the parts of them that lists are. Tables are of any size, and no function asks anything of its caller: what a
 // table does not have is fetched as 0 or as an empty part, and a store there changes nothing.
 ghost use Rattle.std.specs.Prelude.{◌≡◌, ◌+◌, ◌*◌, pos, length, get_or, set, replicate};
-ghost use Rattle.tables.specs.Limits.{mostRows, hasCells, isShort};
-ghost use Rattle.tables.specs.Cells.{CellIs, fractionAt, EntryIs, withCell, withValue, withEntry, part};
-ghost use Rattle.tables.specs.Pairs.{pairsIn};
+ghost use Rattle.tables.specs.Limits.{most_rows, has_cells, is_short};
+ghost use Rattle.tables.specs.Cells.{CellIs, fraction_at, EntryIs, with_cell, with_value, with_entry, part};
+ghost use Rattle.tables.specs.Pairs.{pairs_in};
 
 use arithmetic::Fraction;
 
@@ -52,7 +52,7 @@ pub struct Header {
 
 // The tables have the cells needed.
 pub fn has_cells(index: &[u16], values: &[i32], rows: &[u16]) -> bool
-    ensures { result ≡ hasCells (length index.now) (length values.now) (length rows.now) }
+    ensures { result ≡ has_cells (length index.now) (length values.now) (length rows.now) }
 {
     if index.len() < limits::INDEX_CELLS {
         return false;
@@ -65,7 +65,7 @@ pub fn has_cells(index: &[u16], values: &[i32], rows: &[u16]) -> bool
 
 // The text is not too long.
 pub fn is_short(text: &[u8]) -> bool
-    ensures { result ≡ isShort text.now }
+    ensures { result ≡ is_short text.now }
 {
     text.len() <= limits::TEXT_BYTES
 }
@@ -104,7 +104,7 @@ fn number_at(values: &[i32], i: usize) -> i32
 
 // The value with this number.
 pub fn value_at(values: &[i32], number: usize) -> Fraction
-    ensures { result ≡ fractionAt values.now number }
+    ensures { result ≡ fraction_at values.now number }
 {
     if number < values.len() {
         let num = number_at(values, 2 * number);
@@ -116,7 +116,7 @@ pub fn value_at(values: &[i32], number: usize) -> Fraction
 
 // The value so many after another.
 pub fn value_from(values: &[i32], base: usize, offset: usize) -> Fraction
-    ensures { result ≡ fractionAt values.now (base + offset) }
+    ensures { result ≡ fraction_at values.now (base + offset) }
 {
     let n = values.len();
     if offset < n {
@@ -150,7 +150,7 @@ pub fn entry_at(rows: &[u16], r: usize) -> Entry
 
 // The row table's entry of solution j.
 pub fn solution_at(rows: &[u16], j: usize) -> Entry
-    ensures { EntryIs rows.now (mostRows + j) result }
+    ensures { EntryIs rows.now (most_rows + j) result }
 {
     let mut r = rows.len();
     if j < r {
@@ -206,7 +206,7 @@ pub fn values_of(values: &[i32], p: Pairs) -> &[i32]
 
 // How many pairs of an index and a value two parts have.
 pub fn pairs_in(indices: &[u16], values: &[i32]) -> usize
-    ensures { result ≡ pairsIn indices.now values.now }
+    ensures { result ≡ pairs_in indices.now values.now }
 {
     let n = values.len() / 2;
     if indices.len() < n { indices.len() } else { n }
@@ -216,7 +216,7 @@ pub fn pairs_in(indices: &[u16], values: &[i32]) -> usize
 
 // A cell of the index table or the row table. A number that no cell can hold is not stored.
 pub fn store_cell(table: &mut [u16], i: usize, x: usize)
-    ensures { table.new ≡ withCell i x table.old }
+    ensures { table.new ≡ with_cell i x table.old }
 {
     if limits::LARGEST < x {
         return;
@@ -237,7 +237,7 @@ fn store_number(values: &mut [i32], i: usize, x: i32)
 
 // The value with this number.
 pub fn store_value(values: &mut [i32], number: usize, f: Fraction)
-    ensures { values.new ≡ withValue number f values.old }
+    ensures { values.new ≡ with_value number f values.old }
 {
     let num = f.num;
     let den = f.den;
@@ -249,7 +249,7 @@ pub fn store_value(values: &mut [i32], number: usize, f: Fraction)
 
 // The row table's entry of row r.
 pub fn store_entry(rows: &mut [u16], r: usize, e: Entry)
-    ensures { rows.new ≡ withEntry r e rows.old }
+    ensures { rows.new ≡ with_entry r e rows.old }
 {
     if r < rows.len() {
         let at = 4 * r;

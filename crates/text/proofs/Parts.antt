@@ -9,27 +9,27 @@ use lib.ListN.{length, take, drop, length-take}
 use lib.Seq.{slice, take-nil, drop-nil}
 use denote.Ref.{Bor}
 use Rattle.text.specs.Bytes.{Bytes}
-use Rattle.text.specs.BytesLaws.{slice-take}
-use Rattle.text.specs.Shown.{IsPart, partFrom, partTo}
+use Rattle.text.specs.BytesLaws.{slice_take}
+use Rattle.text.specs.Shown.{IsPart, part_from, part_to}
 
 -- so many bytes from the start, as far as the text goes
-pub take-least : (n : ℕ) (text : Bytes) → take (min n (length text)) text ≡ take n text
-take-least zero text = rw zero-min
-take-least (suc n) [] = take-nil (min (suc n) 0)
-take-least (suc n) (b ∷ text) = rw suc-min-suc (ap (λ (u : Bytes). b ∷ u) (take-least n text))
+pub take_least : (n : ℕ) (text : Bytes) → take (min n (length text)) text ≡ take n text
+take_least zero text = rw zero-min
+take_least (suc n) [] = take-nil (min (suc n) 0)
+take_least (suc n) (b ∷ text) = rw suc-min-suc (ap (λ (u : Bytes). b ∷ u) (take_least n text))
 
 -- and what is left after so many, where there are so many
-drop-least : (n : ℕ) (text : Bytes) → drop (min n (length text)) text ≡ drop n text
-drop-least zero text = rw zero-min
-drop-least (suc n) [] = drop-nil (min (suc n) 0)
-drop-least (suc n) (b ∷ text) = rw suc-min-suc (drop-least n text)
+drop_least : (n : ℕ) (text : Bytes) → drop (min n (length text)) text ≡ drop n text
+drop_least zero text = rw zero-min
+drop_least (suc n) [] = drop-nil (min (suc n) 0)
+drop_least (suc n) (b ∷ text) = rw suc-min-suc (drop_least n text)
 
 -- the part that a text has of `from` .. `to` has these bytes
-pub slice-least : (from to : ℕ) (text : Bytes) → slice (partFrom text from to) (partTo text to) text ≡ slice from to text
-slice-least from to text =
-    ap (drop (partFrom text from to)) (take-least to text)
+pub slice_least : (from to : ℕ) (text : Bytes) → slice (part_from text from to) (part_to text to) text ≡ slice from to text
+slice_least from to text =
+    ap (drop (part_from text from to)) (take_least to text)
     ∙ ap (λ (n : ℕ). drop (min from n) (take to text)) (sym (length-take to text))
-    ∙ drop-least from (take to text)
+    ∙ drop_least from (take to text)
 
 -- ---- a reference to a part
 
@@ -45,5 +45,5 @@ part_at {text} {part} {f} {t} from to p q ordered inside block offset bytes =
       inside = inside;
       block = block;
       offset = offset;
-      bytes = bytes ∙ sym (slice-take from (to - from) text.now) ∙ ap (λ (n : ℕ). slice from n text.now) e;
+      bytes = bytes ∙ sym (slice_take from (to - from) text.now) ∙ ap (λ (n : ℕ). slice from n text.now) e;
     }))

@@ -10,32 +10,32 @@ use lib.Seq.{slice, length-slice}
 use denote.Ref.{Bor}
 use Rattle.text.specs.Bytes.{Bytes, same}
 use Rattle.text.specs.BytesLaws.{same_refl, same_true}
-use Rattle.text.specs.Comments.{commentsEnd}
-use Rattle.text.specs.CommentsLaws.{comments-end-at}
+use Rattle.text.specs.Comments.{comments_end}
+use Rattle.text.specs.CommentsLaws.{comments_end_at}
 use Rattle.text.specs.Tokens.{FirstToken, HasTokens, FirstGoes, Stream, listed, rest}
-use Rattle.text.specs.TokensLaws.{first-stream, has-tokens, rest-is}
-use Rattle.text.specs.Scans.{scanOf}
+use Rattle.text.specs.TokensLaws.{first_stream, has_tokens, rest_is}
+use Rattle.text.specs.Scans.{scan_of}
 use Rattle.text.specs.ScansLaws.{found, ended}
-use Rattle.text.specs.Shown.{beginsToken, shownFrom, shownTo, shownAt, IsPart, partFrom, partTo}
-use Rattle.text.specs.ShownLaws.{begun-rest, from-none, to_none, text-token-shown}
+use Rattle.text.specs.Shown.{begins_token, shown_from, shown_to, shown_at, IsPart, part_from, part_to}
+use Rattle.text.specs.ShownLaws.{begun_rest, from_none, to_none, text_token_shown}
 use Rattle.text.specs.Promises.{CommentsPassed, TokenScanned, PartTaken, WordCompared, TokenShown}
-use Rattle.text.proofs.Parts.{slice-least}
+use Rattle.text.proofs.Parts.{slice_least}
 use Rattle.text.specs.declared.Scan.{Scan}
 use Rattle.text.specs.declared.Scan.TheVariants as scan
 
-pub comments-passed : (text : Bytes) {r : ℕ} → r ≡ commentsEnd text → CommentsPassed text r
-comments-passed text e =
+pub comments_passed : (text : Bytes) {r : ℕ} → r ≡ comments_end text → CommentsPassed text r
+comments_passed text e =
     record {
-      by-definition = e;
-      ends-exactly = λ place. let h = comments-end-at text place in (λ c. h.0 c ∙ sym e, λ q. h.1 (q ∙ e));
+      by_definition = e;
+      ends_exactly = λ place. let h = comments_end_at text place in (λ c. h.0 c ∙ sym e, λ q. h.1 (q ∙ e));
     }
 
-module _ (text : Bytes) (at : ℕ) {r : Scan} (e : r ≡ scanOf (rest text at)) where
+module _ (text : Bytes) (at : ℕ) {r : Scan} (e : r ≡ scan_of (rest text at)) where
   -- a token that is found is the first
-  is-first : (from to : ℕ) → r ≡ scan.Token from to → FirstGoes text at from to
-  is-first from to h =
+  is_first : (from to : ℕ) → r ≡ scan.Token from to → FirstGoes text at from to
+  is_first from to h =
       let f = found text at (sym e ∙ h) in
-      let all = (has-tokens text at (listed (rest text at))).1 (rest-is text at) in
+      let all = (has_tokens text at (listed (rest text at))).1 (rest_is text at) in
       let has = subst (λ (s : Stream). HasTokens at (drop at text) (listed s)) f.first all in
       record {
         bytes = slice from to text;
@@ -45,48 +45,48 @@ module _ (text : Bytes) (at : ℕ) {r : Scan} (e : r ≡ scanOf (rest text at)) 
       }
 
   -- and the first is found
-  first-is : (from to : ℕ) → FirstGoes text at from to → r ≡ scan.Token from to
+  first_is : (from to : ℕ) → FirstGoes text at from to → r ≡ scan.Token from to
   unfolding rest
-  first-is from to g = e ∙ ap scanOf (first-stream (length text) g.first) ∙ ap (scan.Token from) (sym g.ends)
+  first_is from to g = e ∙ ap scan_of (first_stream (length text) g.first) ∙ ap (scan.Token from) (sym g.ends)
 
-  pub token-scanned : TokenScanned text at r
-  token-scanned =
+  pub token_scanned : TokenScanned text at r
+  token_scanned =
       record {
-        by-definition = e;
-        token-exactly = λ from to. (is-first from to, first-is from to);
-        end-exactly = (λ h. (has-tokens text at []).1 (ended text at (sym e ∙ h)), λ h. e ∙ ap scanOf ((has-tokens text at []).0 h));
+        by_definition = e;
+        token_exactly = λ from to. (is_first from to, first_is from to);
+        end_exactly = (λ h. (has_tokens text at []).1 (ended text at (sym e ∙ h)), λ h. e ∙ ap scan_of ((has_tokens text at []).0 h));
       }
 
-pub part-taken : {text answer : Bor Bytes} (from to : ℕ) → IsPart text (partFrom text.now from to) (partTo text.now to) answer
+pub part_taken : {text answer : Bor Bytes} (from to : ℕ) → IsPart text (part_from text.now from to) (part_to text.now to) answer
     → PartTaken text from to answer
-part-taken {text} from to p = record { itself = p; bytes = p.bytes ∙ slice-least from to text.now }
+part_taken {text} from to p = record { itself = p; bytes = p.bytes ∙ slice_least from to text.now }
 
-pub word-compared : (part word : Bytes) {r : Bool} → r ≡ same part word → WordCompared part word r
-word-compared part word e =
+pub word_compared : (part word : Bytes) {r : Bool} → r ≡ same part word → WordCompared part word r
+word_compared part word e =
     record {
-      by-definition = e;
-      equal-exactly = (λ t. same_true part word (sym e ∙ t), λ q. e ∙ subst (λ (w : Bytes). same part w ≡ true) q (same_refl part));
+      by_definition = e;
+      equal_exactly = (λ t. same_true part word (sym e ∙ t), λ q. e ∙ subst (λ (w : Bytes). same part w ≡ true) q (same_refl part));
     }
 
-module _ {text answer : Bor Bytes} (place : ℕ) (p : IsPart text (shownFrom text.now place) (shownTo text.now place) answer) where
-  is-begun : beginsToken text.now place ≡ true
+module _ {text answer : Bor Bytes} (place : ℕ) (p : IsPart text (shown_from text.now place) (shown_to text.now place) answer) where
+  is_begun : begins_token text.now place ≡ true
       → (after : Bytes) × FirstToken place (drop place text.now) (record { place = place; bytes = answer.now }) after
-  is-begun b =
-      let all = (has-tokens text.now place (listed (rest text.now place))).1 (rest-is text.now place) in
-      let has = subst (λ (s : Stream). HasTokens place (drop place text.now) (listed s)) (begun-rest text.now place b) all in
+  is_begun b =
+      let all = (has_tokens text.now place (listed (rest text.now place))).1 (rest_is text.now place) in
+      let has = subst (λ (s : Stream). HasTokens place (drop place text.now) (listed s)) (begun_rest text.now place b) all in
       (has.0, subst (λ (w : Bytes). FirstToken place (drop place text.now) (record { place = place; bytes = w }) has.0) (sym p.bytes) has.1)
 
-  at-the-end : beginsToken text.now place ≡ false → IsPart text (length text.now) (length text.now) answer
-  at-the-end b =
-      subst (λ (n : ℕ). IsPart text n (length text.now) answer) (from-none text.now place b)
-      (subst (λ (n : ℕ). IsPart text (shownFrom text.now place) n answer) (to_none text.now place b) p)
+  at-the_end : begins_token text.now place ≡ false → IsPart text (length text.now) (length text.now) answer
+  at-the_end b =
+      subst (λ (n : ℕ). IsPart text n (length text.now) answer) (from_none text.now place b)
+      (subst (λ (n : ℕ). IsPart text (shown_from text.now place) n answer) (to_none text.now place b) p)
 
-  pub token-shown : TokenShown text place answer
-  token-shown =
+  pub token_shown : TokenShown text place answer
+  token_shown =
       record {
-        by-definition = p;
-        begun = is-begun;
-        not-begun = at-the-end;
+        by_definition = p;
+        begun = is_begun;
+        not_begun = at-the_end;
         each-token = λ before t after h e.
-            p.bytes ∙ ap (shownAt text.now) (sym e) ∙ (text-token-shown before t after h).1;
+            p.bytes ∙ ap (shown_at text.now) (sym e) ∙ (text_token_shown before t after h).1;
       }

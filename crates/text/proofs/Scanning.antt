@@ -3,18 +3,18 @@
 use mathlib.Core.Path.{◌≡◌, sym, ap, ◌∙◌, subst}
 use Prim.Native.Nat.{ℕ, ◌+◌, ◌≤◌, ◌<◌}
 use lib.ListN.{length, drop}
-use Rattle.text.specs.Bytes.{Bytes, isSeparator, leading}
-use Rattle.text.specs.Tokens.{isTokenByte, rest, tokenEnd}
-use Rattle.text.specs.Scans.{scanOf, Found}
-use Rattle.text.specs.ScansLaws.{found_first, none_left, scan-found}
+use Rattle.text.specs.Bytes.{Bytes, is_separator, leading}
+use Rattle.text.specs.Tokens.{is_token_byte, rest, token_end}
+use Rattle.text.specs.Scans.{scan_of, Found}
+use Rattle.text.specs.ScansLaws.{found_first, none_left, scan_found}
 use Rattle.text.specs.declared.Scan.TheVariants as scan
 
-module _ (text : Bytes) (at : ℕ) {from : ℕ} (is : from ≡ at + leading isSeparator (drop at text)) where
-  pub scans-token : from < length text → {to : ℕ} → to ≡ from + leading isTokenByte (drop from text) → scan.Token from to ≡ scanOf (rest text at)
-  scans-token h {to} e =
+module _ (text : Bytes) (at : ℕ) {from : ℕ} (is : from ≡ at + leading is_separator (drop at text)) where
+  pub scans_token : from < length text → {to : ℕ} → to ≡ from + leading is_token_byte (drop from text) → scan.Token from to ≡ scan_of (rest text at)
+  scans_token h {to} e =
       let f = found_first text at (subst (λ (n : ℕ). n < length text) is h) in
-      let g : Found text at from (tokenEnd text from) = subst (λ (n : ℕ). Found text at n (tokenEnd text n)) (sym is) f in
-      ap (scan.Token from) e ∙ sym (scan-found g)
+      let g : Found text at from (token_end text from) = subst (λ (n : ℕ). Found text at n (token_end text n)) (sym is) f in
+      ap (scan.Token from) e ∙ sym (scan_found g)
 
-  pub scans-end : length text ≤ from → scan.End ≡ scanOf (rest text at)
-  scans-end h = ap scanOf (sym (none_left text at (subst (λ (n : ℕ). length text ≤ n) is h)))
+  pub scans_end : length text ≤ from → scan.End ≡ scan_of (rest text at)
+  scans_end h = ap scan_of (sym (none_left text at (subst (λ (n : ℕ). length text ≤ n) is h)))

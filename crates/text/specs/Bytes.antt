@@ -6,16 +6,16 @@ abbrev pub Bytes : Type 0
 Bytes = List ℕ
 
 -- "separated by space, tab, CR, LF"
-unfoldable pub isSeparator : ℕ → Bool
-isSeparator b = eqb b 32 || (eqb b 9 || (eqb b 13 || eqb b 10))
+unfoldable pub is_separator : ℕ → Bool
+is_separator b = eqb b 32 || (eqb b 9 || (eqb b 13 || eqb b 10))
 
 -- "bytes 33 to 126", of which a name is made
-unfoldable pub isPrintable : ℕ → Bool
-isPrintable b = leb 33 b && leb b 126
+unfoldable pub is_printable : ℕ → Bool
+is_printable b = leb 33 b && leb b 126
 
 -- `0` to `9`
-unfoldable pub isDigit : ℕ → Bool
-isDigit b = leb 48 b && leb b 57
+unfoldable pub is_digit : ℕ → Bool
+is_digit b = leb 48 b && leb b 57
 
 -- every byte passes the test
 abbrev pub every : (ℕ → Bool) → Bytes → Bool
@@ -35,14 +35,14 @@ same (a ∷ u) [] = false
 same (a ∷ u) (b ∷ v) = eqb a b && same u v
 
 -- "digits": one or more, and nothing else
-abbrev pub isNumeral : Bytes → Bool
-isNumeral [] = false
-isNumeral (b ∷ w) = every isDigit (b ∷ w)
+abbrev pub is_numeral : Bytes → Bool
+is_numeral [] = false
+is_numeral (b ∷ w) = every is_digit (b ∷ w)
 
 -- the number that digits spell after those that spell n; and the number that digits spell
-abbrev pub numberAfter : ℕ → Bytes → ℕ
-numberAfter n [] = n
-numberAfter n (b ∷ w) = numberAfter (n * 10 + (b - 48)) w
+abbrev pub number_after : ℕ → Bytes → ℕ
+number_after n [] = n
+number_after n (b ∷ w) = number_after (n * 10 + (b - 48)) w
 
 abbrev pub number_of : Bytes → ℕ
-number_of w = numberAfter 0 w
+number_of w = number_after 0 w

@@ -69,9 +69,9 @@ module _ (test : ℕ → Bool) where
       go false e k h ih = absurd (not-suc-le-zero h)
 
   -- and the next byte does not
-  pub leading-stop : (w : Bytes) (b : ℕ) (after : Bytes) → drop (leading test w) w ≡ b ∷ after → test b ≡ false
-  leading-stop [] b after e = absurd (let z : ◌≡◌ {A = ℕ} 0 1 = cc in omega arith)
-  leading-stop (a ∷ w) b after e = go (test a) refl (leading-stop w b after)
+  pub leading_stop : (w : Bytes) (b : ℕ) (after : Bytes) → drop (leading test w) w ≡ b ∷ after → test b ≡ false
+  leading_stop [] b after e = absurd (let z : ◌≡◌ {A = ℕ} 0 1 = cc in omega arith)
+  leading_stop (a ∷ w) b after e = go (test a) refl (leading_stop w b after)
     where
       go : (x : Bool) → test a ≡ x → (drop (leading test w) w ≡ b ∷ after → test b ≡ false) → test b ≡ false
       go true q ih = ih (rw q at e)
@@ -90,7 +90,7 @@ pub uncons : (w : Bytes) (i : ℕ) → i < length w → drop i w ≡ get_or w i 
 uncons w i h = rw (add-one, drop-cons w i 0)
 
 -- the elements from `from` on, so many of them
-pub slice-take : {A : Type 0} (from n : ℕ) (l : List A) → slice from (from + n) l ≡ take n (drop from l)
-slice-take zero n l = rw zero-add
-slice-take (suc from) n [] = rw suc-add (sym (take-nil n))
-slice-take (suc from) n (x ∷ l) = rw suc-add (slice-take from n l)
+pub slice_take : {A : Type 0} (from n : ℕ) (l : List A) → slice from (from + n) l ≡ take n (drop from l)
+slice_take zero n l = rw zero-add
+slice_take (suc from) n [] = rw suc-add (sym (take-nil n))
+slice_take (suc from) n (x ∷ l) = rw suc-add (slice_take from n l)

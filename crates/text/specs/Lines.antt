@@ -3,13 +3,13 @@
 -- Assumes nothing.
 use Rattle.std.specs.Prelude.{cond, [], ◌∷◌, ℕ, suc, ◌+◌, take}
 use Rattle.text.specs.Bytes.{Bytes}
-use Rattle.text.specs.Comments.{isLineFeed}
+use Rattle.text.specs.Comments.{is_line_feed}
 
 -- how many LF bytes
-abbrev pub lineFeeds : Bytes → ℕ
-lineFeeds [] = 0
-lineFeeds (b ∷ part) = let after = lineFeeds part in cond (isLineFeed b) (suc after) after
+abbrev pub line_feeds : Bytes → ℕ
+line_feeds [] = 0
+line_feeds (b ∷ part) = let after = line_feeds part in cond (is_line_feed b) (suc after) after
 
 -- the line of a place
 unfoldable pub line_of : Bytes → ℕ → ℕ
-line_of text place = 1 + lineFeeds (take place text)
+line_of text place = 1 + line_feeds (take place text)

@@ -4,46 +4,46 @@ use Rattle.std.specs.Prelude.{◌≡◌, Bool, true, false, ◌↔◌, List, [],
 use Rattle.std.proofs.Math.Seq.{slice}
 use Rattle.std.specs.Borrow.{Bor}
 use Rattle.text.specs.Bytes.{Bytes, same}
-use Rattle.text.specs.Comments.{CommentsEndAt, commentsEnd}
+use Rattle.text.specs.Comments.{CommentsEndAt, comments_end}
 use Rattle.text.specs.Tokens.{Token, FirstToken, HasTokens, FirstGoes, TextHasTokens, rest}
-use Rattle.text.specs.Shown.{beginsToken, shownFrom, shownTo, IsPart, partFrom, partTo}
-use Rattle.text.specs.Scans.{scanOf}
+use Rattle.text.specs.Shown.{begins_token, shown_from, shown_to, IsPart, part_from, part_to}
+use Rattle.text.specs.Scans.{scan_of}
 use Rattle.text.specs.declared.Scan.{Scan}
 use Rattle.text.specs.declared.Scan.TheVariants as scan
 
 -- `comments_end`
 pub record CommentsPassed (text : Bytes) (answer : ℕ) : Type 0 where
-  pub by-definition : answer ≡ commentsEnd text
+  pub by_definition : answer ≡ comments_end text
   -- the comments end at the answer, and at no other place
-  pub ends-exactly : (place : ℕ) → CommentsEndAt text place ↔ (place ≡ answer)
+  pub ends_exactly : (place : ℕ) → CommentsEndAt text place ↔ (place ≡ answer)
 
 -- `next_token`
 pub record TokenScanned (text : Bytes) (at : ℕ) (answer : Scan) : Type 0 where
-  pub by-definition : answer ≡ scanOf (rest text at)
+  pub by_definition : answer ≡ scan_of (rest text at)
   -- it is a token exactly where that is the first from `at` on, and the end exactly where none but separators are left
-  pub token-exactly : (from to : ℕ) → (answer ≡ scan.Token from to) ↔ FirstGoes text at from to
-  pub end-exactly : (answer ≡ scan.End) ↔ HasTokens at (drop at text) []
+  pub token_exactly : (from to : ℕ) → (answer ≡ scan.Token from to) ↔ FirstGoes text at from to
+  pub end_exactly : (answer ≡ scan.End) ↔ HasTokens at (drop at text) []
 
 -- `part`: a part of the lent text itself
 pub record PartTaken (text : Bor Bytes) (from to : ℕ) (answer : Bor Bytes) : Type 0 where
-  pub itself : IsPart text (partFrom text.now from to) (partTo text.now to) answer
+  pub itself : IsPart text (part_from text.now from to) (part_to text.now to) answer
   -- its bytes are those from `from` up to `to`
   pub bytes : answer.now ≡ slice from to text.now
 
 -- `is_word`: "compared byte for byte, case included"
 pub record WordCompared (part word : Bytes) (answer : Bool) : Type 0 where
-  pub by-definition : answer ≡ same part word
+  pub by_definition : answer ≡ same part word
   -- it is true exactly where the bytes are equal
-  pub equal-exactly : (answer ≡ true) ↔ (part ≡ word)
+  pub equal_exactly : (answer ≡ true) ↔ (part ≡ word)
 
 -- `show_token`
 pub record TokenShown (text : Bor Bytes) (place : ℕ) (answer : Bor Bytes) : Type 0 where
-  pub by-definition : IsPart text (shownFrom text.now place) (shownTo text.now place) answer
+  pub by_definition : IsPart text (shown_from text.now place) (shown_to text.now place) answer
   -- "If a token begins there .., the answer is that part of the lent text itself": from the place on the text has this token first
-  pub begun : beginsToken text.now place ≡ true
+  pub begun : begins_token text.now place ≡ true
       → (after : Bytes) × FirstToken place (drop place text.now) (record { place = place; bytes = answer.now }) after
   -- "otherwise an empty part at its end"
-  pub not-begun : beginsToken text.now place ≡ false → IsPart text (length text.now) (length text.now) answer
+  pub not_begun : begins_token text.now place ≡ false → IsPart text (length text.now) (length text.now) answer
   -- each token of the text, after its comments, is shown at its place
   pub each-token : (before : List Token) (t : Token) (after : List Token) → TextHasTokens text.now (before ++ (t ∷ after))
       → t.place ≡ place → answer.now ≡ t.bytes

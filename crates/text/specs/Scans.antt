@@ -3,9 +3,9 @@
 -- Assumes nothing.
 use Rattle.std.specs.Prelude.{◌≡◌, Bool, ℕ, ◌+◌, ◌≤◌, ◌<◌, length}
 use Rattle.std.proofs.Math.Seq.{slice}
-use Rattle.text.specs.Bytes.{Bytes, isSeparator}
-use Rattle.text.specs.Comments.{isLineByte}
-use Rattle.text.specs.Tokens.{isTokenByte, Stream, end, token, rest}
+use Rattle.text.specs.Bytes.{Bytes, is_separator}
+use Rattle.text.specs.Comments.{is_line_byte}
+use Rattle.text.specs.Tokens.{is_token_byte, Stream, end, token, rest}
 use Rattle.text.specs.declared.Kind.{Kind}
 use Rattle.text.specs.declared.Kind.TheVariants as kind
 use Rattle.text.specs.declared.Scan.{Scan}
@@ -13,14 +13,14 @@ use Rattle.text.specs.declared.Scan.TheVariants as scan
 
 -- the bytes of a gap between tokens, of a token, and of a line
 abbrev pub is_of : Kind → ℕ → Bool
-is_of kind.Gap = isSeparator
-is_of kind.Token = isTokenByte
-is_of kind.Line = isLineByte
+is_of kind.Gap = is_separator
+is_of kind.Token = is_token_byte
+is_of kind.Line = is_line_byte
 
 -- a stream's first token, by the places of its first byte and after its last; or the end
-abbrev pub scanOf : Stream → Scan
-scanOf (end size) = scan.End
-scanOf (token place bytes s) = scan.Token place (place + length bytes)
+abbrev pub scan_of : Stream → Scan
+scan_of (end size) = scan.End
+scan_of (token place bytes s) = scan.Token place (place + length bytes)
 
 -- the first token from `at` on goes `from` .. `to`, and what follows it are the tokens from `to` on, or from the next place
 pub record Found (text : Bytes) (at from to : ℕ) : Type 0 where

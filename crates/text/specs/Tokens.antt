@@ -3,8 +3,8 @@
 -- tokens from a place on, as a stream that ends in the text's length. TokensLaws.antt proves that both say the same.
 -- Assumes nothing.
 use Rattle.std.specs.Prelude.{◌≡◌, Bool, true, false, cond, not, List, [], ◌∷◌, ◌++◌, ℕ, ◌+◌, ◌<◌, length, drop}
-use Rattle.text.specs.Bytes.{Bytes, isSeparator, every, leading}
-use Rattle.text.specs.Comments.{CommentsEndAt, commentsEnd}
+use Rattle.text.specs.Bytes.{Bytes, is_separator, every, leading}
+use Rattle.text.specs.Comments.{CommentsEndAt, comments_end}
 
 -- the place of its first byte in the text, and its bytes
 pub record Token : Type 0 where
@@ -12,13 +12,13 @@ pub record Token : Type 0 where
   pub bytes : Bytes
 
 -- a byte of a token: any that is no separator
-abbrev pub isTokenByte : ℕ → Bool
-isTokenByte b = not (isSeparator b)
+abbrev pub is_token_byte : ℕ → Bool
+is_token_byte b = not (is_separator b)
 
 -- a token ends before this part: nothing is left, or a separator comes first
-abbrev pub isEnded : Bytes → Bool
-isEnded [] = true
-isEnded (b ∷ part) = isSeparator b
+abbrev pub is_ended : Bytes → Bool
+is_ended [] = true
+is_ended (b ∷ part) = is_separator b
 
 -- ---- in words
 
@@ -27,16 +27,16 @@ isEnded (b ∷ part) = isSeparator b
 pub record FirstToken (at : ℕ) (part : Bytes) (t : Token) (after : Bytes) : Type 0 where
   pub gap : Bytes
   pub cut : part ≡ gap ++ (t.bytes ++ after)
-  pub separators : every isSeparator gap ≡ true
+  pub separators : every is_separator gap ≡ true
   pub place : t.place ≡ at + length gap
   pub not-empty : 0 < length t.bytes
-  pub unbroken : every isTokenByte t.bytes ≡ true
-  pub ended : isEnded after ≡ true
+  pub unbroken : every is_token_byte t.bytes ≡ true
+  pub ended : is_ended after ≡ true
 
 -- `part`, whose first byte stands at place `at` of the text, has these tokens and no other: one after the other, and at last
 -- separators only
 abbrev pub HasTokens : ℕ → Bytes → List Token → Type 0
-HasTokens at part [] = every isSeparator part ≡ true
+HasTokens at part [] = every is_separator part ≡ true
 HasTokens at part (t ∷ ts) = (after : Bytes) × FirstToken at part t after × HasTokens (t.place + length t.bytes) after ts
 
 -- the first token of the text from place `at` on goes `from` .. `to`
@@ -71,26 +71,26 @@ listed (token place bytes s) = record { place = place; bytes = bytes } ∷ liste
 
 -- a token's byte b at a place, and then the stream: b is a token by itself, if a token ends there (true), else the first byte
 -- of the token that the stream begins with
-abbrev pub withByte : ℕ → ℕ → Bool → Stream → Stream
-withByte place b true s = token place (b ∷ []) s
-withByte place b false (end size) = token place (b ∷ []) (end size)
-withByte place b false (token next bytes s) = token place (b ∷ bytes) s
+abbrev pub with_byte : ℕ → ℕ → Bool → Stream → Stream
+with_byte place b true s = token place (b ∷ []) s
+with_byte place b false (end size) = token place (b ∷ []) (end size)
+with_byte place b false (token next bytes s) = token place (b ∷ bytes) s
 
 -- the tokens of a part whose first byte stands at `place` of a text of `size` bytes
-unfoldable pub streamAt : ℕ → ℕ → Bytes → Stream
-streamAt size place [] = end size
-streamAt size place (b ∷ part) =
-    let after = streamAt size (place + 1) part in
-    cond (isSeparator b) after (withByte place b (isEnded part) after)
+unfoldable pub stream_at : ℕ → ℕ → Bytes → Stream
+stream_at size place [] = end size
+stream_at size place (b ∷ part) =
+    let after = stream_at size (place + 1) part in
+    cond (is_separator b) after (with_byte place b (is_ended part) after)
 
 -- the tokens from the byte place `at` of a text on; none from a place past its end
 unfoldable pub rest : Bytes → ℕ → Stream
-rest text at = streamAt (length text) at (drop at text)
+rest text at = stream_at (length text) at (drop at text)
 
 -- where the token at a place ends: before the next separator, or at the text's end
-abbrev pub tokenEnd : Bytes → ℕ → ℕ
-tokenEnd text place = place + leading isTokenByte (drop place text)
+abbrev pub token_end : Bytes → ℕ → ℕ
+token_end text place = place + leading is_token_byte (drop place text)
 
 -- the tokens of a text, after its comments
-unfoldable pub tokensOf : Bytes → List Token
-tokensOf text = listed (rest text (commentsEnd text))
+unfoldable pub tokens_of : Bytes → List Token
+tokens_of text = listed (rest text (comments_end text))

@@ -30,11 +30,11 @@ SOL = ascii "SOL"
 abbrev pub DER : Bytes
 DER = ascii "DER"
 
-abbrev pub open-brace : Bytes
-open-brace = ascii "{"
+abbrev pub open_brace : Bytes
+open_brace = ascii "{"
 
-abbrev pub close-brace : Bytes
-close-brace = ascii "}"
+abbrev pub close_brace : Bytes
+close_brace = ascii "}"
 
 abbrev pub min : Bytes
 min = ascii "min"
@@ -57,8 +57,8 @@ infeas = ascii "infeas"
 abbrev pub range : Bytes
 range = ascii "range"
 
-abbrev pub minus-inf : Bytes
-minus-inf = ascii "-inf"
+abbrev pub minus_inf : Bytes
+minus_inf = ascii "-inf"
 
 abbrev pub inf : Bytes
 inf = ascii "inf"

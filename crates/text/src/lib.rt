@@ -2,9 +2,9 @@
 // number past its end.
 ghost use Rattle.std.specs.Prelude.{◌≡◌, ◌+◌, min, drop};
 ghost use Rattle.std.proofs.Math.Seq.{slice};
-ghost use Rattle.text.specs.Bytes.{isSeparator, isDigit, leading, same};
+ghost use Rattle.text.specs.Bytes.{is_separator, is_digit, leading, same};
 ghost use Rattle.text.specs.Lines.{line_of};
-ghost use Rattle.text.specs.Shown.{beginsToken};
+ghost use Rattle.text.specs.Shown.{begins_token};
 ghost use Rattle.text.specs.Scans.{is_of};
 ghost use Rattle.text.specs.Promises.{CommentsPassed, TokenScanned, PartTaken, WordCompared, TokenShown};
 
@@ -25,7 +25,7 @@ enum Kind {
 
 // Space, tab, CR, LF.
 fn is_separator(b: u8) -> bool
-    ensures { result ≡ isSeparator b }
+    ensures { result ≡ is_separator b }
 {
     if b == 32 {
         return true;
@@ -41,7 +41,7 @@ fn is_separator(b: u8) -> bool
 
 // A decimal digit.
 pub fn is_digit(b: u8) -> bool
-    ensures { result ≡ isDigit b }
+    ensures { result ≡ is_digit b }
 {
     if b < 48 {
         return false;
@@ -166,7 +166,7 @@ pub fn is_word(text: &[u8], from: usize, to: usize, word: &[u8]) -> bool
 
 // A token begins at the place: no separator stands there, and none but a separator before it.
 fn begins_token(text: &[u8], place: usize) -> bool
-    ensures { result ≡ beginsToken text.now place }
+    ensures { result ≡ begins_token text.now place }
 {
     if text.len() <= place {
         return false;

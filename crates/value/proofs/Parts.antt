@@ -2,24 +2,24 @@
 -- Assumes nothing.
 use mathlib.Core.Path.{◌≡◌, sym, subst}
 use mathlib.Core.Bool.{true, false}
-use Rattle.text.specs.Bytes.{Bytes, isNumeral}
-use Rattle.numerals.specs.Reading.{digitsOf}
+use Rattle.text.specs.Bytes.{Bytes, is_numeral}
+use Rattle.numerals.specs.Reading.{digits_of}
 use Rattle.value.specs.Runs.{Stands, Ended}
 use Rattle.value.specs.declared.Digits.{Digits}
 use Rattle.value.specs.declared.Part.{Part}
 use Rattle.value.specs.declared.Part.TheVariants as part
-use Rattle.numerals.proofs.Numbers.{digits-numeral}
+use Rattle.numerals.proofs.Numbers.{digits_numeral}
 
 module _ (t : Bytes) (d : Digits) (p : Part) (h : Ended t d p) where
-  pub part-misspelled : p ≡ part.NotDigits → isNumeral t ≡ false
-  part-misspelled e = subst (Ended t d) e h
+  pub part_misspelled : p ≡ part.NotDigits → is_numeral t ≡ false
+  part_misspelled e = subst (Ended t d) e h
 
   module _ (r : Digits) (e : p ≡ part.Digits r) where
-    ends : (isNumeral t ≡ true) × (r ≡ d)
+    ends : (is_numeral t ≡ true) × (r ≡ d)
     ends = subst (Ended t d) e h
 
-    pub part-numeral : isNumeral t ≡ true
-    part-numeral = ends.0
+    pub part_numeral : is_numeral t ≡ true
+    part_numeral = ends.0
 
-    pub part-stands : Stands (digitsOf t) d → Stands t r
-    part-stands g = subst (λ (u : Bytes). Stands u r) (digits-numeral t part-numeral) (subst (Stands (digitsOf t)) (sym ends.1) g)
+    pub part_stands : Stands (digits_of t) d → Stands t r
+    part_stands g = subst (λ (u : Bytes). Stands u r) (digits_numeral t part_numeral) (subst (Stands (digits_of t)) (sym ends.1) g)

@@ -6,7 +6,7 @@ use Rattle.value.specs.declared.ValueAnswer.{ValueAnswer}
 use Rattle.value.specs.declared.ValueAnswer.TheVariants.{Value, NotAValue, TooWide}
 
 -- 01's number and value for each case of the answer
-abbrev pub valueSays : ValueAnswer → Outcome Fraction
-valueSays (Value f) = gives f
-valueSays NotAValue = refuses 4
-valueSays TooWide = refuses 7
+abbrev pub value_says : ValueAnswer → Outcome Fraction
+value_says (Value f) = gives f
+value_says NotAValue = refuses 4
+value_says TooWide = refuses 7

@@ -2,15 +2,15 @@
 // caller: any bytes are taken, of any length.
 ghost use Rattle.std.specs.Prelude.{◌≡◌, Bool, false, ◌∷◌, ◌+◌, ◌*◌, ◌^◌, ◌≤◌, ◌<◌, ℤ, length, get_or, drop};
 ghost use Rattle.integers.specs.Signs.{with_sign};
-ghost use Rattle.text.specs.Bytes.{isDigit, leading};
+ghost use Rattle.text.specs.Bytes.{is_digit, leading};
 ghost use Rattle.arithmetic.specs.Quotient.{lowest};
 ghost use Rattle.arithmetic.specs.Parts.{over};
-ghost use Rattle.numerals.specs.Spelling.{isZero, mostDigits};
-ghost use Rattle.numerals.specs.Reading.{digitsOf, tailOf, unsignedForm, narrowed, outcomeOf};
+ghost use Rattle.numerals.specs.Spelling.{is_zero, most_digits};
+ghost use Rattle.numerals.specs.Reading.{digits_of, tail_of, unsigned_form, narrowed, outcome_of};
 ghost use Rattle.numerals.specs.ValueRead.{ValueRead};
-ghost use Rattle.value.specs.Promise.{valueSays};
-ghost use Rattle.exponents.specs.Exponents.{room, powerSays, powerWithin};
-ghost use Rattle.value.specs.Runs.{Bounded, Appended, Longer, RunRead, noDigits, SignificantRead, Continued, WholeRead, Ended, PositiveRatio, ratioSays, wholeOutcome, scaledOutcome, WithTail, WithSignificant, Extended, Scaled, AfterPoint};
+ghost use Rattle.value.specs.Promise.{value_says};
+ghost use Rattle.exponents.specs.Exponents.{room, power_says, power_within};
+ghost use Rattle.value.specs.Runs.{Bounded, Appended, Longer, RunRead, no_digits, SignificantRead, Continued, WholeRead, Ended, PositiveRatio, ratio_says, whole_outcome, scaled_outcome, WithTail, WithSignificant, Extended, Scaled, AfterPoint};
 
 use arithmetic::{Arithmetic, Fraction};
 use exponents::{Exponent, Power};
@@ -37,7 +37,7 @@ struct Digits {
 
 impl Digits {
     fn none() -> Digits
-        ensures { result ≡ noDigits }
+        ensures { result ≡ no_digits }
     {
         Digits {
             number: 0,
@@ -127,7 +127,7 @@ fn read_run(token: &[u8], from: usize, start: Digits) -> Run
 
 // The place after the zeros that stand at a place.
 fn skip_zeros(token: &[u8], from: usize) -> usize
-    ensures { result ≡ from + leading isZero (drop from token.now) }
+    ensures { result ≡ from + leading is_zero (drop from token.now) }
 {
     let mut at = from;
     while at < token.len() {
@@ -181,7 +181,7 @@ enum Part {
 
 // The run from a place on, if it has a digit and ends where the token does.
 fn ended(token: &[u8], from: usize, run: Run) -> Part
-    requires { run.next ≡ from + leading isDigit (drop from token.now) }
+    requires { run.next ≡ from + leading is_digit (drop from token.now) }
     ensures { Ended (drop from token.now) run.digits result }
 {
     let next = run.next;
@@ -205,7 +205,7 @@ enum Ratio {
 
 // A whole number.
 fn whole_ratio(whole: Digits) -> Ratio
-    ensures { PositiveRatio result × ((s : Bool) → ratioSays s result ≡ wholeOutcome s whole) }
+    ensures { PositiveRatio result × ((s : Bool) → ratio_says s result ≡ whole_outcome s whole) }
 {
     if whole.count > MOST_DIGITS {
         return Ratio::TooWide;
@@ -215,7 +215,7 @@ fn whole_ratio(whole: Digits) -> Ratio
 
 // A quotient: the numerator `whole`, and the denominator from a place on. Its digits are not all zero.
 fn quotient_ratio(whole: Digits, token: &[u8], from: usize) -> Ratio
-    ensures { PositiveRatio result × WithTail whole (tailOf (47 ∷ drop from token.now)) result }
+    ensures { PositiveRatio result × WithTail whole (tail_of (47 ∷ drop from token.now)) result }
 {
     let Part::Digits(d) = ended(token, from, read_whole(token, from)) else {
         return Ratio::NotAValue;
@@ -234,8 +234,8 @@ fn quotient_ratio(whole: Digits, token: &[u8], from: usize) -> Ratio
 
 // At most 18 digits, of which the first is not 0, times a power of ten.
 fn times_power(digits: Digits, x: Power) -> Ratio
-    requires { (digits.count ≤ mostDigits) × (digits.number < 10 ^ digits.count) × ((z : ℤ) × (powerSays x ≡ powerWithin z)) }
-    ensures { PositiveRatio result × (10 ^ digits.count ≤ digits.number * 10 → (z : ℤ) → powerSays x ≡ powerWithin z → (s : Bool) → ratioSays s result ≡ scaledOutcome s digits.number z) }
+    requires { (digits.count ≤ most_digits) × (digits.number < 10 ^ digits.count) × ((z : ℤ) × (power_says x ≡ power_within z)) }
+    ensures { PositiveRatio result × (10 ^ digits.count ≤ digits.number * 10 → (z : ℤ) → power_says x ≡ power_within z → (s : Bool) → ratio_says s result ≡ scaled_outcome s digits.number z) }
 {
     match x {
         Power::Up(k) => whole_ratio(digits.appended(k, 0)),
@@ -267,8 +267,8 @@ fn scaled_ratio(digits: Digits, places: usize, token: &[u8], from: usize) -> Rat
 
 // A value that goes on at `end` after its digits, those after the point from `first` on: with an exponent, or it is no value.
 fn extended_ratio(whole: Digits, token: &[u8], first: usize, end: usize) -> Ratio
-    requires { Bounded first whole × (end ≡ first + leading isDigit (drop first token.now)) × (end < length token.now) }
-    ensures { PositiveRatio result × Extended whole (digitsOf (drop first token.now)) (drop end token.now) result }
+    requires { Bounded first whole × (end ≡ first + leading is_digit (drop first token.now)) × (end < length token.now) }
+    ensures { PositiveRatio result × Extended whole (digits_of (drop first token.now)) (drop end token.now) result }
 {
     if exponents::is_letter(token[end]) {
         scaled_ratio(read_on(token, first, whole), end - first, token, end + 1)
@@ -290,8 +290,8 @@ fn after_point(token: &[u8], at: usize) -> usize
 
 // A decimal, or a whole number with an exponent: `whole` before a place, at which no digit and no slash stands.
 fn decimal_ratio(whole: Digits, token: &[u8], at: usize) -> Ratio
-    requires { Bounded at whole × (at < length token.now) × (isDigit (get_or token.now at 0) ≡ false) × (get_or token.now at 0 ≡ 47 → ⊥) }
-    ensures { PositiveRatio result × WithSignificant whole (tailOf (drop at token.now)) result }
+    requires { Bounded at whole × (at < length token.now) × (is_digit (get_or token.now at 0) ≡ false) × (get_or token.now at 0 ≡ 47 → ⊥) }
+    ensures { PositiveRatio result × WithSignificant whole (tail_of (drop at token.now)) result }
 {
     let first = after_point(token, at);
     let run = read_run(token, first, whole.counted());
@@ -311,7 +311,7 @@ fn decimal_ratio(whole: Digits, token: &[u8], at: usize) -> Ratio
 
 // What stands after the optional minus.
 fn read_ratio(token: &[u8], from: usize) -> Ratio
-    ensures { PositiveRatio result × ((s : Bool) → ratioSays s result ≡ outcomeOf (unsignedForm s (drop from token.now))) }
+    ensures { PositiveRatio result × ((s : Bool) → ratio_says s result ≡ outcome_of (unsigned_form s (drop from token.now))) }
 {
     let run = read_significant(token, from);
     let next = run.next;
@@ -331,7 +331,7 @@ fn read_ratio(token: &[u8], from: usize) -> Ratio
 // A quotient, brought to lowest terms.
 fn reduce(negative: bool, p: u64, q: u64) -> ValueAnswer
     requires { 0 < q }
-    ensures { valueSays result ≡ narrowed (lowest (over (with_sign negative p) q)) }
+    ensures { value_says result ≡ narrowed (lowest (over (with_sign negative p) q)) }
 {
     let a = arithmetic::reduced(negative, p, q);
     let Arithmetic::Value(f) = a else {
@@ -342,7 +342,7 @@ fn reduce(negative: bool, p: u64, q: u64) -> ValueAnswer
 
 // The value that stands after the optional minus.
 fn read_unsigned(negative: bool, token: &[u8], from: usize) -> ValueAnswer
-    ensures { valueSays result ≡ outcomeOf (unsignedForm negative (drop from token.now)) }
+    ensures { value_says result ≡ outcome_of (unsigned_form negative (drop from token.now)) }
 {
     let ratio = read_ratio(token, from);
     match ratio {
@@ -354,7 +354,7 @@ fn read_unsigned(negative: bool, token: &[u8], from: usize) -> ValueAnswer
 
 // Read one value: the fraction that a token spells, or the refusal of that token.
 pub fn read_value(token: &[u8]) -> ValueAnswer
-    ensures { ValueRead token.now (valueSays result) }
+    ensures { ValueRead token.now (value_says result) }
 {
     if token.len() == 0 {
         return ValueAnswer::NotAValue;

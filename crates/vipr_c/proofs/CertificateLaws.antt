@@ -8,15 +8,15 @@ use native.Mathlib.Omega.{arith}
 use lib.IntN.{ℤ}
 use lib.ListN.{length}
 use Rattle.text.specs.Bytes.{Bytes}
-use Rattle.tables.specs.Limits.{mostBytes}
+use Rattle.tables.specs.Limits.{most_bytes}
 use Rattle.grammar.specs.Texts.{ReadText, taken, refused}
-use Rattle.grammar.specs.Refusals.{refusalNumber}
+use Rattle.grammar.specs.Refusals.{refusal_number}
 use Rattle.grammar.specs.declared.Refusal.{Refusal}
 use Rattle.grammar.specs.declared.Refusal.TheVariants.{TableTooSmall, TextTooLong, TokenMissing, WrongKind, OutOfRange, UsedBefore, ValueTooWide, TokenLeft, SolutionFails, ClaimNotReached, RowSpent, ResultTooWide, MultipliersNotSuitable, CannotBeRounded, NoDomination, NoProperSplit, ClaimNotProved, NoSolutionListed}
 use Rattle.rules.specs.Result as rules
-use Rattle.rules.specs.Check.{checkOf}
+use Rattle.rules.specs.Check.{check_of}
 use Rattle.reader.specs.Promise as reading
-use Rattle.reader.specs.Promise.{Course, begun, courseOf, CertificateRead}
+use Rattle.reader.specs.Promise.{Course, begun, course_of, CertificateRead}
 use Rattle.tables.specs.declared.Header.{Header}
 use Rattle.reader.specs.declared.Reading.{Reading}
 use Rattle.reader.specs.declared.Reading.TheVariants as read
@@ -24,33 +24,33 @@ use Rattle.checker.specs.Promise as checking
 use Rattle.checker.specs.Promise.{CertificateVerified}
 use Rattle.checker.specs.declared.Verification.{Verification}
 use Rattle.checker.specs.declared.Verification.TheVariants as verified
-use Rattle.vipr_c.specs.Certificates.{Reply, reply, readReply, verifyReply, CertificateReturned, VerificationReturned}
-use Rattle.vipr_c.proofs.Courses.{line-bound, line_small, returned-exactly}
+use Rattle.vipr_c.specs.Certificates.{Reply, reply, read_reply, verify_reply, CertificateReturned, VerificationReturned}
+use Rattle.vipr_c.proofs.Courses.{line_bound, line_small, returned_exactly}
 
 -- ---- 0 is no reason
 
-number-positive : (r : Refusal) → 0 < refusalNumber r
-number-positive TableTooSmall = omega arith
-number-positive TextTooLong = omega arith
-number-positive TokenMissing = omega arith
-number-positive WrongKind = omega arith
-number-positive OutOfRange = omega arith
-number-positive UsedBefore = omega arith
-number-positive ValueTooWide = omega arith
-number-positive TokenLeft = omega arith
-number-positive SolutionFails = omega arith
-number-positive ClaimNotReached = omega arith
-number-positive RowSpent = omega arith
-number-positive ResultTooWide = omega arith
-number-positive MultipliersNotSuitable = omega arith
-number-positive CannotBeRounded = omega arith
-number-positive NoDomination = omega arith
-number-positive NoProperSplit = omega arith
-number-positive ClaimNotProved = omega arith
-number-positive NoSolutionListed = omega arith
+number_positive : (r : Refusal) → 0 < refusal_number r
+number_positive TableTooSmall = omega arith
+number_positive TextTooLong = omega arith
+number_positive TokenMissing = omega arith
+number_positive WrongKind = omega arith
+number_positive OutOfRange = omega arith
+number_positive UsedBefore = omega arith
+number_positive ValueTooWide = omega arith
+number_positive TokenLeft = omega arith
+number_positive SolutionFails = omega arith
+number_positive ClaimNotReached = omega arith
+number_positive RowSpent = omega arith
+number_positive ResultTooWide = omega arith
+number_positive MultipliersNotSuitable = omega arith
+number_positive CannotBeRounded = omega arith
+number_positive NoDomination = omega arith
+number_positive NoProperSplit = omega arith
+number_positive ClaimNotProved = omega arith
+number_positive NoSolutionListed = omega arith
 
-not-zero : {X : Type 0} (r : Refusal) → refusalNumber r ≡ 0 → X
-not-zero r z = absurd (omega (arith, number-positive r))
+not-zero : {X : Type 0} (r : Refusal) → refusal_number r ≡ 0 → X
+not-zero r z = absurd (omega (arith, number_positive r))
 
 -- the same line, with a number that is worked out
 pub same_line : (line : ℕ) {n m : ℕ} → n ≡ m → reply n line ≡ reply m line
@@ -58,72 +58,72 @@ same_line line e = ap (λ (n : ℕ). reply n line) e
 
 -- ---- reading
 
-abbrev readReplied : Reading → Reply
-readReplied r = readReply (reading.readingSays r)
+abbrev read_replied : Reading → Reply
+read_replied r = read_reply (reading.reading_says r)
 
-abbrev readCourse : Bytes → Course → Reply
-readCourse text c = readReply (reading.answer_of text c)
+abbrev read_course : Bytes → Course → Reply
+read_course text c = read_reply (reading.answer_of text c)
 
-taken-zero : (r : Reading) → ((readReplied r).status ≡ 0) ↔ ((header : Header) × (r ≡ read.Taken header))
-taken-zero (read.Taken header) = (λ z. (header, refl), λ p. refl)
-taken-zero (read.Refused reason line) =
+taken_zero : (r : Reading) → ((read_replied r).status ≡ 0) ↔ ((header : Header) × (r ≡ read.Taken header))
+taken_zero (read.Taken header) = (λ z. (header, refl), λ p. refl)
+taken_zero (read.Refused reason line) =
     (λ z. not-zero reason z, λ p. let t : read.Refused reason line ≡ read.Taken p.0 = p.1 in absurd (let z : ◌≡◌ {A = ℕ} 0 1 = cc in omega arith))
 
-read-lines : (text : Bytes) (read : ReadText) → length text ≤ mostBytes → (readCourse text (begun read)).line ≤ 32769
-read-lines text (taken tree) h = omega arith
-read-lines text (refused reason place) h = line-bound text place h
+read_lines : (text : Bytes) (read : ReadText) → length text ≤ most_bytes → (read_course text (begun read)).line ≤ 32769
+read_lines text (taken tree) h = omega arith
+read_lines text (refused reason place) h = line_bound text place h
 
 module _ {text : Bytes} {index : List ℕ} {values : List ℤ} {rows : List ℕ} {index' : List ℕ} {values' : List ℤ} {rows' : List ℕ} {r : Reading} (h : CertificateRead text index values rows index' values' rows' r) where
-  read_answer : readReplied r ≡ readCourse text (courseOf text (length index) (length values) (length rows))
-  read_answer = ap readReply h.answer
+  read_answer : read_replied r ≡ read_course text (course_of text (length index) (length values) (length rows))
+  read_answer = ap read_reply h.answer
 
   pub read-line : {reason : Refusal} {line : ℕ} → r ≡ read.Refused reason line → line ≤ 32769
-  read-line e = line_small text index values rows readReplied (readCourse text) (λ n. refl) r read_answer (read-lines text) e
+  read-line e = line_small text index values rows read_replied (read_course text) (λ n. refl) r read_answer (read_lines text) e
 
-  pub read-returned : {returned line : ℕ} (a : Reading) → r ≡ a → reply returned line ≡ readReplied a → CertificateReturned text index values rows index' values' rows' returned line
-  read-returned a e q =
-      let p = q ∙ sym (ap readReplied e) in
+  pub read_returned : {returned line : ℕ} (a : Reading) → r ≡ a → reply returned line ≡ read_replied a → CertificateReturned text index values rows index' values' rows' returned line
+  read_returned a e q =
+      let p = q ∙ sym (ap read_replied e) in
       record {
         answer = p ∙ read_answer;
         tables = h.tables;
-        taken-exactly = returned-exactly (readReplied r) p (taken-zero r) h.taken-exactly;
-        spelled-once = h.spelled-once;
+        taken_exactly = returned_exactly (read_replied r) p (taken_zero r) h.taken_exactly;
+        spelled_once = h.spelled_once;
         held = h.held;
       }
 
 -- ---- verifying
 
-abbrev verifyReplied : Verification → Reply
-verifyReplied r = verifyReply (checking.verificationSays r)
+abbrev verify_replied : Verification → Reply
+verify_replied r = verify_reply (checking.verification_says r)
 
-abbrev verifyCourse : Bytes → Course → Reply
-verifyCourse text c = verifyReply (checking.answer_of text c)
+abbrev verify_course : Bytes → Course → Reply
+verify_course text c = verify_reply (checking.answer_of text c)
 
-verified-zero : (r : Verification) → ((verifyReplied r).status ≡ 0) ↔ (r ≡ verified.Verified)
-verified-zero verified.Verified = (λ z. refl, λ p. refl)
-verified-zero (verified.Refused reason line) = (λ z. not-zero reason z, λ p. absurd (let z : ◌≡◌ {A = ℕ} 0 1 = cc in omega arith))
+verified_zero : (r : Verification) → ((verify_replied r).status ≡ 0) ↔ (r ≡ verified.Verified)
+verified_zero verified.Verified = (λ z. refl, λ p. refl)
+verified_zero (verified.Refused reason line) = (λ z. not-zero reason z, λ p. absurd (let z : ◌≡◌ {A = ℕ} 0 1 = cc in omega arith))
 
-checked-lines : (text : Bytes) (v : rules.Verdict) → length text ≤ mostBytes → (verifyReply (checking.checkedSays text v)).line ≤ 32769
-checked-lines text (rules.done u) h = omega arith
-checked-lines text (rules.refused reason place) h = line-bound text place h
+checked_lines : (text : Bytes) (v : rules.Verdict) → length text ≤ most_bytes → (verify_reply (checking.checked_says text v)).line ≤ 32769
+checked_lines text (rules.done u) h = omega arith
+checked_lines text (rules.refused reason place) h = line_bound text place h
 
-verify-lines : (text : Bytes) (read : ReadText) → length text ≤ mostBytes → (verifyCourse text (begun read)).line ≤ 32769
-verify-lines text (taken tree) h = checked-lines text (checkOf tree) h
-verify-lines text (refused reason place) h = line-bound text place h
+verify_lines : (text : Bytes) (read : ReadText) → length text ≤ most_bytes → (verify_course text (begun read)).line ≤ 32769
+verify_lines text (taken tree) h = checked_lines text (check_of tree) h
+verify_lines text (refused reason place) h = line_bound text place h
 
 module _ {text : Bytes} {index : List ℕ} {values : List ℤ} {rows : List ℕ} {index' : List ℕ} {values' : List ℤ} {rows' : List ℕ} {r : Verification} (h : CertificateVerified text index values rows index' values' rows' r) where
-  verify-answer : verifyReplied r ≡ verifyCourse text (courseOf text (length index) (length values) (length rows))
-  verify-answer = ap verifyReply h.answer
+  verify_answer : verify_replied r ≡ verify_course text (course_of text (length index) (length values) (length rows))
+  verify_answer = ap verify_reply h.answer
 
-  pub verify-line : {reason : Refusal} {line : ℕ} → r ≡ verified.Refused reason line → line ≤ 32769
-  verify-line e = line_small text index values rows verifyReplied (verifyCourse text) (λ n. refl) r verify-answer (verify-lines text) e
+  pub verify_line : {reason : Refusal} {line : ℕ} → r ≡ verified.Refused reason line → line ≤ 32769
+  verify_line e = line_small text index values rows verify_replied (verify_course text) (λ n. refl) r verify_answer (verify_lines text) e
 
-  pub verify-returned : {returned line : ℕ} (a : Verification) → r ≡ a → reply returned line ≡ verifyReplied a → VerificationReturned text index values rows index' values' rows' returned line
-  verify-returned a e q =
-      let p = q ∙ sym (ap verifyReplied e) in
+  pub verify_returned : {returned line : ℕ} (a : Verification) → r ≡ a → reply returned line ≡ verify_replied a → VerificationReturned text index values rows index' values' rows' returned line
+  verify_returned a e q =
+      let p = q ∙ sym (ap verify_replied e) in
       record {
-        answer = p ∙ verify-answer;
+        answer = p ∙ verify_answer;
         tables = h.tables;
-        verified-exactly = returned-exactly (verifyReplied r) p (verified-zero r) h.verified-exactly;
-        verified-means = λ z. h.verified-means ((verified-zero r).0 (sym (ap (λ (x : Reply). x.status) p) ∙ z));
+        verified_exactly = returned_exactly (verify_replied r) p (verified_zero r) h.verified_exactly;
+        verified_means = λ z. h.verified_means ((verified_zero r).0 (sym (ap (λ (x : Reply). x.status) p) ∙ z));
       }

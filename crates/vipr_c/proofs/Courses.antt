@@ -10,27 +10,27 @@ use lib.IntN.{ℤ}
 use lib.ListN.{length}
 use Rattle.text.specs.Bytes.{Bytes}
 use Rattle.text.specs.Lines.{line_of}
-use Rattle.tables.specs.Limits.{mostBytes}
+use Rattle.tables.specs.Limits.{most_bytes}
 use Rattle.grammar.specs.Texts.{ReadText, read_of}
-use Rattle.reader.specs.Promise.{Course, not-begun, begun, courseOf}
-use Rattle.reader.proofs.Courses.{by-course}
+use Rattle.reader.specs.Promise.{Course, not_begun, begun, course_of}
+use Rattle.reader.proofs.Courses.{by_course}
 use Rattle.vipr_c.specs.Certificates.{Reply, reply}
-use Rattle.vipr_c.proofs.Lines.{lines-few}
+use Rattle.vipr_c.proofs.Lines.{lines_few}
 
 -- a text that is read has 32,769 lines at most
-pub line-bound : (text : Bytes) (place : ℕ) → length text ≤ 32768 → line_of text place ≤ 32769
-line-bound text place h = omega (arith, lines-few text place)
+pub line_bound : (text : Bytes) (place : ℕ) → length text ≤ 32768 → line_of text place ≤ 32769
+line_bound text place h = omega (arith, lines_few text place)
 
 -- an answer r, replied to by `replied`, which goes by the course
 module _ (text : Bytes) (index : List ℕ) (values : List ℤ) (rows : List ℕ) {R : Type 0} (replied : R → Reply) (f : Course → Reply)
-    (stops : (n : ℕ) → f (not-begun n) ≡ reply n 0) (r : R) (answer : replied r ≡ f (courseOf text (length index) (length values) (length rows))) where
-  pub line_small : ((read : ReadText) → length text ≤ mostBytes → (f (begun read)).line ≤ 32769) → {a : R} → r ≡ a → (replied a).line ≤ 32769
+    (stops : (n : ℕ) → f (not_begun n) ≡ reply n 0) (r : R) (answer : replied r ≡ f (course_of text (length index) (length values) (length rows))) where
+  pub line_small : ((read : ReadText) → length text ≤ most_bytes → (f (begun read)).line ≤ 32769) → {a : R} → r ≡ a → (replied a).line ≤ 32769
   line_small lines e =
       rw (sym (ap replied e) ∙ answer)
-      (by-course text index values rows (λ c. (f c).line ≤ 32769) (rw (stops 1) (omega arith)) (rw (stops 2) (omega arith)) (λ b. lines (read_of text) b.short))
+      (by_course text index values rows (λ c. (f c).line ≤ 32769) (rw (stops 1) (omega arith)) (rw (stops 2) (omega arith)) (λ b. lines (read_of text) b.short))
 
 -- 0 exactly where it went well, which is where it should
-pub returned-exactly : {returned line : ℕ} {Well Should : Type 0} (replied : Reply) → reply returned line ≡ replied → (replied.status ≡ 0) ↔ Well → Well ↔ Should → (returned ≡ 0) ↔ Should
-returned-exactly replied q w s =
+pub returned_exactly : {returned line : ℕ} {Well Should : Type 0} (replied : Reply) → reply returned line ≡ replied → (replied.status ≡ 0) ↔ Well → Well ↔ Should → (returned ≡ 0) ↔ Should
+returned_exactly replied q w s =
     let e = ap (λ (r : Reply). r.status) q in
     (λ z. s.0 (w.0 (sym e ∙ z)), λ p. e ∙ w.1 (s.1 p))

@@ -7,17 +7,17 @@ use native.Mathlib.Nat.{min-le_right}
 use native.Mathlib.Omega.{arith}
 use lib.ListN.{length, take, length-take}
 use Rattle.text.specs.Bytes.{Bytes}
-use Rattle.text.specs.Comments.{isLineFeed}
-use Rattle.text.specs.Lines.{lineFeeds, line_of}
+use Rattle.text.specs.Comments.{is_line_feed}
+use Rattle.text.specs.Lines.{line_feeds, line_of}
 
-feeds-few : (part : Bytes) → lineFeeds part ≤ length part
-feeds-few [] = omega arith
-feeds-few (b ∷ part) = go (isLineFeed b) (feeds-few part)
+feeds_few : (part : Bytes) → line_feeds part ≤ length part
+feeds_few [] = omega arith
+feeds_few (b ∷ part) = go (is_line_feed b) (feeds_few part)
   where
-    go : (x : Bool) → lineFeeds part ≤ length part → cond x (suc (lineFeeds part)) (lineFeeds part) ≤ suc (length part)
+    go : (x : Bool) → line_feeds part ≤ length part → cond x (suc (line_feeds part)) (line_feeds part) ≤ suc (length part)
     go true h = omega arith
     go false h = omega arith
 
-pub lines-few : (text : Bytes) (place : ℕ) → line_of text place ≤ length text + 1
+pub lines_few : (text : Bytes) (place : ℕ) → line_of text place ≤ length text + 1
 unfolding line_of
-lines-few text place = omega (arith, feeds-few (take place text), length-take place text, min-le_right place (length text))
+lines_few text place = omega (arith, feeds_few (take place text), length-take place text, min-le_right place (length text))

@@ -2,7 +2,7 @@
 // refusal, results go through pointers, and the tables are the caller's. include/vipr.h declares the functions.
 ghost use Rattle.std.specs.Prelude.{◌≡◌, ◌≤◌};
 ghost use Rattle.fraction_c.specs.Stored.{pair};
-ghost use Rattle.grammar.specs.Refusals.{refusalNumber};
+ghost use Rattle.grammar.specs.Refusals.{refusal_number};
 ghost use Rattle.vipr_c.specs.Values.{ValueReturned};
 ghost use Rattle.vipr_c.specs.Shown.{TokenMeasured};
 ghost use Rattle.vipr_c.specs.Certificates.{reply, CertificateReturned, VerificationReturned};
@@ -43,7 +43,7 @@ pub extern "C" fn vipr_show_token(text: &[u8], place: usize) -> usize
 // A refusal's number, with its line stored.
 fn refused(reason: Refusal, at: usize, line: &mut u32) -> u8
     requires { at ≤ 32769 }
-    ensures { reply result line.new ≡ reply (refusalNumber reason) at }
+    ensures { reply result line.new ≡ reply (refusal_number reason) at }
 {
     let stored = at as u32;
     *line = stored;

@@ -4,25 +4,25 @@ use lib.IntN.{nat_abs}
 use borrow.Author.Rules.{rules}
 use Rattle.arithmetic.proofs.add_product.Statement.{statement}
 use Rattle.arithmetic.proofs.add_product.Tie as tie
-use Rattle.integers.proofs.Casts.{back-of}
-use Rattle.arithmetic.specs.Fraction.{IsFraction, addProductOf}
+use Rattle.integers.proofs.Casts.{back_of}
+use Rattle.arithmetic.specs.Fraction.{IsFraction, add_product_of}
 use Rattle.arithmetic.specs.declared.Fraction.{Fraction}
 use Rattle.arithmetic.proofs.Ways.{Told, zero-read, one-read}
-use Rattle.arithmetic.proofs.Whole.{IsWhole, whole-add, zero-added}
+use Rattle.arithmetic.proofs.Whole.{IsWhole, whole-add, zero_added}
 
-told-s : (c : tie.Start) → Told c.args.s
-told-s c = let g = c.well-formed.0.1.1 in (g.0.1, g.1.0.1)
+told_s : (c : tie.Start) → Told c.args.s
+told_s c = let g = c.well_formed.0.1.1 in (g.0.1, g.1.0.1)
 
-told-a : (c : tie.Start) → Told c.args.a
-told-a c = let g = c.well-formed.1.0.1.1 in (g.0.1, g.1.0.1)
+told_a : (c : tie.Start) → Told c.args.a
+told_a c = let g = c.well_formed.1.0.1.1 in (g.0.1, g.1.0.1)
 
-told-b : (c : tie.Start) → Told c.args.b
-told-b c = let g = c.well-formed.1.1.0.1.1 in (g.0.1, g.1.0.1)
+told_b : (c : tie.Start) → Told c.args.b
+told_b c = let g = c.well_formed.1.1.0.1.1 in (g.0.1, g.1.0.1)
 
 returns : tie.Need-returns
 returns c = λ u v w.
     let s = c.before.before.before in
-    sym (zero-added s.args.s s.args.a s.args.b u v w (zero-read s.args.b.num (told-b s).0 c.if1.true))
+    sym (zero_added s.args.s s.args.a s.args.b u v w (zero-read s.args.b.num (told_b s).0 c.if1.true))
 
 returns-2 : tie.Need-returns-2
 returns-2 c = λ u v w.
@@ -32,14 +32,14 @@ returns-2 c = λ u v w.
     let s = two.before.before.before.before.before.before in
     let whole : (f : Fraction) → IsFraction f → nat_abs f.den ≡ 1 → IsWhole f = λ f h e. record { is = h; one = e } in
     c.add-product-whole.ensures
-    ∙ (rw (back-of s.args.s.num (told-s s).0, back-of s.args.a.num (told-a s).0, back-of s.args.b.num (told-b s).0))
+    ∙ (rw (back_of s.args.s.num (told_s s).0, back_of s.args.a.num (told_a s).0, back_of s.args.b.num (told_b s).0))
     ∙ whole-add s.args.s s.args.a s.args.b
-    (whole _ u (ap nat_abs (one-read s.args.s.den (told-s s).1 two.if2.true)))
-    (whole _ v (ap nat_abs (one-read s.args.a.den (told-a s).1 three.if3.true)))
-    (whole _ w (ap nat_abs (one-read s.args.b.den (told-b s).1 four.if4.true)))
+    (whole _ u (ap nat_abs (one-read s.args.s.den (told_s s).1 two.if2.true)))
+    (whole _ v (ap nat_abs (one-read s.args.a.den (told_a s).1 three.if3.true)))
+    (whole _ w (ap nat_abs (one-read s.args.b.den (told_b s).1 four.if4.true)))
 
 returns-3 : tie.Need-returns-3
 returns-3 c = c.add-product-any.ensures
 
-pub add-product-spec : {M : Type 1} → statement M
-add-product-spec = tie.close (tie.spec returns (λ c. search rules) returns-2 (λ c. search rules) returns-3)
+pub add_product_spec : {M : Type 1} → statement M
+add_product_spec = tie.close (tie.spec returns (λ c. search rules) returns-2 (λ c. search rules) returns-3)

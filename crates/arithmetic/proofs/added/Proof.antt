@@ -8,7 +8,7 @@ use mir.Syntax.{w64}
 use mir.Val.{SFits}
 use Rattle.arithmetic.proofs.added.Statement.{statement}
 use Rattle.arithmetic.proofs.added.Tie as tie
-use Rattle.integers.specs.Signs.{with_sign, sign-magnitude}
+use Rattle.integers.specs.Signs.{with_sign, sign_magnitude}
 use Rattle.integers.proofs.Casts.{back_at, sum_fits, below-zero}
 use Rattle.arithmetic.specs.Parts.{over}
 use Rattle.arithmetic.proofs.Ways.{read_wide}
@@ -23,8 +23,8 @@ fits c =
     let y = c.cross2 in
     rw (back_at w64 x.result x.type-inv, back_at w64 y.result y.type-inv) (sum_fits x.result y.result x.ensures.1 y.ensures.1)
 
-total-is : (c : tie.After-cross2) → let s = c.before.before in total c ≡ s.args.a.num *ℤ pos (nat_abs s.args.b.den) +ℤ s.args.b.num *ℤ pos (nat_abs s.args.a.den)
-total-is c =
+total_is : (c : tie.After-cross2) → let s = c.before.before in total c ≡ s.args.a.num *ℤ pos (nat_abs s.args.b.den) +ℤ s.args.b.num *ℤ pos (nat_abs s.args.a.den)
+total_is c =
     let x = c.before.cross in
     let y = c.cross2 in
     ap₂ ◌+ℤ◌ (back_at w64 x.result x.type-inv ∙ x.ensures.0) (back_at w64 y.result y.type-inv ∙ y.ensures.0)
@@ -39,8 +39,8 @@ returns c =
     let read : read_wide t ≡ t = to_z-of_z (fits k) in
     ap₂ over
     (ap₂ with_sign (ap (λ (z : ℤ). lt_z z (pos 0)) read ∙ below-zero t) (c.before.magnitude-wide.ensures ∙ ap nat_abs read)
-    ∙ sign-magnitude t ∙ total-is k)
+    ∙ sign_magnitude t ∙ total_is k)
     c.denominators.ensures
 
-pub added-spec : {M : Type 1} → statement M
-added-spec = tie.close (tie.spec (λ c. search rules) (λ c. search rules) add-t (λ c. search rules) (λ c. search rules) returns)
+pub added_spec : {M : Type 1} → statement M
+added_spec = tie.close (tie.spec (λ c. search rules) (λ c. search rules) add-t (λ c. search rules) (λ c. search rules) returns)

@@ -8,8 +8,8 @@ use mir.Syntax.{w64}
 use Rattle.integers.proofs.Casts.{back_at}
 use Rattle.arithmetic.specs.Outcome.{gives}
 use Rattle.arithmetic.specs.Fraction.{order}
-use Rattle.arithmetic.specs.Meaning.{are-both}
-use Rattle.arithmetic.proofs.Ways.{on-fractions}
+use Rattle.arithmetic.specs.Meaning.{are_both}
+use Rattle.arithmetic.proofs.Ways.{on_fractions_lem}
 
 returns : tie.Need-returns
 returns c = λ v w.
@@ -18,7 +18,7 @@ returns c = λ v w.
     let s = c.before.before.before in
     c.ordered.ensures
     ∙ ap₂ (λ (p q : ℤ). gives (order p q)) (back_at w64 x.result x.type-inv ∙ x.ensures.0) (back_at w64 y.result y.type-inv ∙ y.ensures.0)
-    ∙ sym (on-fractions _ _ (are-both s.args.a s.args.b (v, w)))
+    ∙ sym (on_fractions_lem _ _ (are_both s.args.a s.args.b (v, w)))
 
-pub compare-spec : {M : Type 1} → statement M
-compare-spec = tie.close (tie.spec (λ c. search rules) (λ c. search rules) (λ c. search rules) returns)
+pub compare_spec : {M : Type 1} → statement M
+compare_spec = tie.close (tie.spec (λ c. search rules) (λ c. search rules) (λ c. search rules) returns)

@@ -2,9 +2,9 @@
 use Rattle.std.proofs.Common.{ℕ, sym, ap, ◌∙◌, ap₂, arith}
 use Rattle.divisors.proofs.gcd.Statement.{statement}
 use Rattle.divisors.proofs.gcd.Tie as tie
-use Rattle.divisors.proofs.gcd_odd.Reads as gcd-odd-reads
-use Rattle.divisors.proofs.odd.Reads as odd-reads
-use Rattle.divisors.proofs.with_twos.Reads as with-twos-reads
+use Rattle.divisors.proofs.gcd_odd.Reads as gcd_odd_reads
+use Rattle.divisors.proofs.odd.Reads as odd_reads
+use Rattle.divisors.proofs.with_twos.Reads as with_twos_reads
 use Rattle.integers.specs.Gcd.{gcd, gcd-zero}
 use Rattle.integers.specs.Binary.{twos, gcd-zero-left}
 
@@ -21,15 +21,15 @@ gcd-odd-requires : tie.Need-gcd-odd-requires
 gcd-odd-requires c κs =
     let s = c.before.before.before in
     let e = c.odd.ensures in
-    (rw e.0 (twos 64 s.args.a (omega arith) (omega arith)).rest-odd, rw e.1 (twos 64 s.args.b (omega arith) (omega arith)).rest-odd)
+    (rw e.0 (twos 64 s.args.a (omega arith) (omega arith)).rest_odd, rw e.1 (twos 64 s.args.b (omega arith) (omega arith)).rest_odd)
 
 with-twos-requires : tie.Need-with-twos-requires
 with-twos-requires c κs =
     let e = c.before.odd.ensures in
-    (omega arith, omega arith, c.gcd-odd.ensures ∙ ap₂ gcd e.0 e.1)
+    (omega arith, omega arith, c.gcd_odd.ensures ∙ ap₂ gcd e.0 e.1)
 
 returns-3 : tie.Need-returns-3
 returns-3 c = c.with-twos.ensures
 
-pub gcd-spec : {M : Type 1} → statement M
-gcd-spec = tie.close (tie.spec returns returns-2 odd-requires gcd-odd-requires with-twos-requires returns-3)
+pub gcd_spec : {M : Type 1} → statement M
+gcd_spec = tie.close (tie.spec returns returns-2 odd-requires gcd-odd-requires with-twos-requires returns-3)

@@ -3,9 +3,9 @@
 use Rattle.std.proofs.Common.{◌+◌, ◌*◌, ◌≤◌, arith}
 use Rattle.divisors.proofs.gcds_narrow.Statement.{statement}
 use Rattle.divisors.proofs.gcds_narrow.Tie as tie
-use Rattle.divisors.proofs.odd.Reads as odd-reads
-use Rattle.divisors.proofs.reached.Reads as reached-reads
-use Rattle.divisors.proofs.step.Reads as step-reads
+use Rattle.divisors.proofs.odd.Reads as odd_reads
+use Rattle.divisors.proofs.reached.Reads as reached_reads
+use Rattle.divisors.proofs.step.Reads as step_reads
 use Rattle.integers.specs.Binary.{Going, going_start, going_on, or_some, or-all}
 
 abbrev invariant-loop : tie.invariant-loop
@@ -18,13 +18,13 @@ at_most_one : (c : tie.Else1 invariant-loop decreases-loop) → let l = c.before
 at_most_one c = let l = c.before.before.before.before.loop in or-all l.p.y l.q.y l.r.y (omega (arith, c.if1.false))
 
 odd-requires : tie.Need-odd-requires invariant-loop decreases-loop
-odd-requires c κs = let h = c.requires.0 in (h.positive-x, h.positive-y)
+odd-requires c κs = let h = c.requires.0 in (h.positive_x, h.positive_y)
 
 odd-requires-2 : tie.Need-odd-requires-2 invariant-loop decreases-loop
-odd-requires-2 c κs = let h = c.before.requires.1 in (h.positive-x, h.positive-y)
+odd-requires-2 c κs = let h = c.before.requires.1 in (h.positive_x, h.positive_y)
 
 odd-requires-3 : tie.Need-odd-requires-3 invariant-loop decreases-loop
-odd-requires-3 c κs = let h = c.before.before.requires.2 in (h.positive-x, h.positive-y)
+odd-requires-3 c κs = let h = c.before.before.requires.2 in (h.positive_x, h.positive_y)
 
 loop-holds : tie.Need-loop-init invariant-loop decreases-loop
 loop-holds c =
@@ -68,6 +68,6 @@ reached-requires-3 c κs = (c.before.before.before.before.before.before.before.b
 returns : tie.Need-returns invariant-loop decreases-loop
 returns c = (c.before.before.reached.ensures, c.before.reached2.ensures, c.reached3.ensures)
 
-pub gcds-narrow-spec : {M : Type 1} → statement M
-gcds-narrow-spec = tie.close (tie.spec invariant-loop decreases-loop odd-requires odd-requires-2 odd-requires-3 loop-holds step-requires
+pub gcds_narrow_spec : {M : Type 1} → statement M
+gcds_narrow_spec = tie.close (tie.spec invariant-loop decreases-loop odd-requires odd-requires-2 odd-requires-3 loop-holds step-requires
     step-requires-2 step-requires-3 loop-less loop-again reached-requires reached-requires-2 reached-requires-3 returns)

@@ -16,7 +16,7 @@ returns-3 : tie.Need-returns-3
 returns-3 c = no
 
 returns-4 : tie.Need-returns-4
-returns-4 c = λ e. record { positive-x = omega arith; positive-y = omega arith; narrow-x = omega arith; narrow-y = ltb-true _ _ e }
+returns-4 c = λ e. record { positive_x = omega arith; positive_y = omega arith; narrow_x = omega arith; narrow_y = ltb-true _ _ e }
 
-pub is-narrow-spec : {M : Type 1} → statement M
-is-narrow-spec = tie.close (tie.spec returns returns-2 returns-3 returns-4)
+pub is_narrow_spec : {M : Type 1} → statement M
+is_narrow_spec = tie.close (tie.spec returns returns-2 returns-3 returns-4)

@@ -1,4 +1,4 @@
--- `exponents::is_letter` meets its contract: the two tests of `isLetter`.
+-- `exponents::is_letter` meets its contract: the two tests of `is_letter`.
 -- Assumes nothing.
 use borrow.Author.Tests.{eq-eqb, ne_eqb}
 use Rattle.exponents.proofs.is_letter.Statement.{statement}
@@ -10,5 +10,5 @@ returns c = rw (eq-eqb _ 69 c.if1.true)
 returns-2 : tie.Need-returns-2
 returns-2 c = rw (ne_eqb _ 69 c.if1.false)
 
-pub is-letter-spec : {M : Type 1} → statement M
-is-letter-spec = tie.close (tie.spec returns returns-2)
+pub is_letter_spec : {M : Type 1} → statement M
+is_letter_spec = tie.close (tie.spec returns returns-2)

@@ -7,9 +7,9 @@ use mathlib.Core.Bool.{true}
 use Prim.Native.Nat.{◌-◌}
 use native.Mathlib.Omega.{arith}
 use lib.ListN.{length, get_or}
-use Rattle.text.specs.Bytes.{isDigit}
-use Rattle.numerals.proofs.Numbers.{digit-bounds}
-use Rattle.exponents.proofs.ExponentLaws.{Counting, counting-starts, counting-goes, counting-stops, counting-ends, no-digits-left}
+use Rattle.text.specs.Bytes.{is_digit}
+use Rattle.numerals.proofs.Numbers.{digit_bounds}
+use Rattle.exponents.proofs.ExponentLaws.{Counting, counting_starts, counting_goes, counting_stops, counting_ends, no_digits-left}
 use Rattle.exponents.proofs.read_digits.Statement.{statement}
 use Rattle.exponents.proofs.read_digits.Tie as tie
 
@@ -20,41 +20,41 @@ abbrev decreases-loop : tie.decreases-loop
 decreases-loop minus token first number₀ at₀ number at = length token - at
 
 returns : tie.Need-returns invariant-loop decreases-loop
-returns c = no-digits-left _ _ c.if1.true
+returns c = no_digits-left _ _ c.if1.true
 
 loop-holds : tie.Need-loop-init invariant-loop decreases-loop
-loop-holds c = counting-starts _ _
+loop-holds c = counting_starts _ _
 
 -- the byte is a digit
 module _ (c : tie.Then2 invariant-loop decreases-loop) where
   abbrev at-loop : tie.At-loop invariant-loop decreases-loop
   at-loop = c.before.before.before.before
 
-  is_digit : isDigit (get_or at-loop.before.before.before.args.token.now at-loop.loop.at 0) ≡ true
+  is_digit : is_digit (get_or at-loop.before.before.before.args.token.now at-loop.loop.at 0) ≡ true
   is_digit = sym c.before.is_digit.ensures ∙ c.if2.true
 
 sub-with-digit : tie.Need-overflow-sub-with-digit invariant-loop decreases-loop
-sub-with-digit c = omega (arith, (digit-bounds _ (is_digit c)).0)
+sub-with-digit c = omega (arith, (digit_bounds _ (is_digit c)).0)
 
 cast-with-digit : tie.Need-overflow-cast-with-digit invariant-loop decreases-loop
-cast-with-digit c = omega (arith, (digit-bounds _ (is_digit c)).1)
+cast-with-digit c = omega (arith, (digit_bounds _ (is_digit c)).1)
 
 with-digit-requires : tie.Need-with-digit-requires invariant-loop decreases-loop
-with-digit-requires c κs = omega (arith, (digit-bounds _ (is_digit c)).1)
+with-digit-requires c κs = omega (arith, (digit_bounds _ (is_digit c)).1)
 
 loop-again : tie.Need-loop-preserved invariant-loop decreases-loop
 loop-again c =
     let l = at-loop c.before in
-    counting-goes _ _ _ _ l.loop.inv c.before.before.before.before.loop-test.true (is_digit c.before) _ c.with-digit.ensures
+    counting_goes _ _ _ _ l.loop.inv c.before.before.before.before.loop-test.true (is_digit c.before) _ c.with-digit.ensures
 
 returns-2 : tie.Need-returns-2 invariant-loop decreases-loop
 returns-2 c =
-    counting-stops _ _ _ _ c.before.before.before.before.loop.invariant c.before.before.before.loop-test.true
+    counting_stops _ _ _ _ c.before.before.before.before.loop.invariant c.before.before.before.loop-test.true
     (sym c.before.is_digit.ensures ∙ c.if2.false)
 
 returns-3 : tie.Need-returns-3 invariant-loop decreases-loop
-returns-3 c = counting-ends _ _ _ _ c.before.loop.invariant c.loop-test.false c.before.before.if1.false _
+returns-3 c = counting_ends _ _ _ _ c.before.loop.invariant c.loop-test.false c.before.before.if1.false _
 
-pub read-digits-spec : {M : Type 1} → statement M
-read-digits-spec = tie.close (tie.spec invariant-loop decreases-loop returns loop-holds (λ c. omega arith) (λ c. search rules) sub-with-digit
+pub read_digits_spec : {M : Type 1} → statement M
+read_digits_spec = tie.close (tie.spec invariant-loop decreases-loop returns loop-holds (λ c. omega arith) (λ c. search rules) sub-with-digit
     cast-with-digit with-digit-requires (λ c. omega arith) (λ c. omega arith) loop-again returns-2 returns-3)

@@ -2,7 +2,7 @@
 use mathlib.Core.Path.{sym, ◌∙◌}
 use borrow.Author.Rules.{rules}
 use Rattle.arithmetic.specs.Meaning.{all_are, add-product-means}
-use Rattle.arithmetic.proofs.Ways.{not-fractions}
+use Rattle.arithmetic.proofs.Ways.{not_fractions}
 use Rattle.fraction.proofs.Promised.{meant}
 use Rattle.fraction.proofs.add_product.Statement.{statement}
 use Rattle.fraction.proofs.add_product.Tie as tie
@@ -16,7 +16,7 @@ returns c =
 returns-2 : tie.Need-returns-2
 returns-2 c =
     let s = c.before.before in
-    meant (add-product-means s.args.sum s.args.a s.args.b) (sym (not-fractions _ _ (sym c.before.All-three.ensures ∙ c.if1.false)))
+    meant (add-product-means s.args.sum s.args.a s.args.b) (sym (not_fractions _ _ (sym c.before.All-three.ensures ∙ c.if1.false)))
 
-pub add-product-spec : {M : Type 1} → statement M
-add-product-spec = tie.close (tie.spec (λ c. search rules) (λ c. search rules) returns returns-2)
+pub add_product_spec : {M : Type 1} → statement M
+add_product_spec = tie.close (tie.spec (λ c. search rules) (λ c. search rules) returns returns-2)

@@ -2,7 +2,7 @@
 use mathlib.Core.Path.{sym, ◌∙◌, ap}
 use borrow.Author.Rules.{rules}
 use Rattle.integers.specs.Gcd.{gcd}
-use Rattle.integers.specs.Coprime.{coprime-one}
+use Rattle.integers.specs.Coprime.{coprime_one}
 use Rattle.fraction.proofs.Divided.{gcd-rest}
 use Rattle.fraction.proofs.divisor_of.Statement.{statement}
 use Rattle.fraction.proofs.divisor_of.Tie as tie
@@ -10,7 +10,7 @@ use Rattle.fraction.proofs.divisor_of.Tie as tie
 returns : tie.Need-returns
 returns c =
     let q = c.before.args.q in
-    sym (ap (gcd q.top) c.if1.true ∙ coprime-one q.top)
+    sym (ap (gcd q.top) c.if1.true ∙ coprime_one q.top)
 
 rem-gcd : tie.Need-nonzero-rem-gcd
 rem-gcd c = c.before.before.requires
@@ -20,5 +20,5 @@ returns-2 c =
     let s = c.before.before.before in
     c.gcd.ensures ∙ gcd-rest s.args.q.top s.args.q.bottom s.requires
 
-pub divisor-of-spec : {M : Type 1} → statement M
-divisor-of-spec = tie.close (tie.spec returns rem-gcd (λ c. search rules) returns-2)
+pub divisor_of_spec : {M : Type 1} → statement M
+divisor_of_spec = tie.close (tie.spec returns rem-gcd (λ c. search rules) returns-2)

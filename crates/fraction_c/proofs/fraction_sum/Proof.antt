@@ -11,5 +11,5 @@ returns c =
     let f = p.before.ranges in
     of_two c.store.ensures sum_of f.a-num f.a-den f.b-num f.b-den p.sum.ensures.equation
 
-pub fraction-sum-spec : {M : Type 1} → statement M
-fraction-sum-spec = tie.close (tie.spec (λ c. search rules) (λ c. search rules) returns)
+pub fraction_sum_spec : {M : Type 1} → statement M
+fraction_sum_spec = tie.close (tie.spec (λ c. search rules) (λ c. search rules) returns)

@@ -1,13 +1,13 @@
 -- `grammar::number` meets its contract: each arm gives its case's number.
 use mathlib.Core.Path.{◌≡◌, sym, ap}
-use Rattle.grammar.specs.Refusals.{refusalNumber}
+use Rattle.grammar.specs.Refusals.{refusal_number}
 use Rattle.grammar.specs.declared.Refusal.{Refusal}
 use borrow.Author.Rules.{rules}
 use Rattle.grammar.proofs.number.Statement.{statement}
 use Rattle.grammar.proofs.number.Tie as tie
 
-said : {r v : Refusal} → r ≡ v → refusalNumber v ≡ refusalNumber r
-said e = ap refusalNumber (sym e)
+said : {r v : Refusal} → r ≡ v → refusal_number v ≡ refusal_number r
+said e = ap refusal_number (sym e)
 
 returns : tie.Need-returns
 returns c = said c.enum_told.given.1
@@ -63,8 +63,8 @@ returns-17 c = said c.enum-told17.given.1
 returns-18 : tie.Need-returns-18
 returns-18 c = said c.enum-told18.given.1
 
-pub number-spec : {M : Type 1} → statement M
-number-spec = tie.close (tie.spec (λ c. search rules) (λ c. search rules) (λ c. search rules) (λ c. search rules)
+pub number_spec : {M : Type 1} → statement M
+number_spec = tie.close (tie.spec (λ c. search rules) (λ c. search rules) (λ c. search rules) (λ c. search rules)
     (λ c. search rules) (λ c. search rules) (λ c. search rules) (λ c. search rules) (λ c. search rules) (λ c. search rules)
     (λ c. search rules) (λ c. search rules) (λ c. search rules) (λ c. search rules) (λ c. search rules) (λ c. search rules)
     (λ c. search rules) (λ c. search rules) returns returns-2 returns-3 returns-4 returns-5 returns-6 returns-7 returns-8

@@ -8,7 +8,7 @@ use mir.Syntax.{w64}
 use mir.Val.{to_z, of_z}
 use mir.Facts.{to_z-of_z}
 use Rattle.program.specs.Transcript.{after-means}
-use Rattle.program.proofs.Inputs.{stopped-as, nothing-after, line_after}
+use Rattle.program.proofs.Inputs.{stopped_as, nothing_after, line_after_lem}
 use Rattle.program.proofs.run.Statement.{statement}
 use Rattle.program.proofs.run.Tie as tie
 
@@ -24,12 +24,12 @@ returns c =
     let t = c.before.before.before in
     let r = t.before.before.read-input in
     let text = take r.result.came r.new.0 in
-    let made = nothing-after (held t) text c.before.before.if1.true in
+    let made = nothing_after (held t) text c.before.before.if1.true in
     record {
-      stopped = stopped-as r.result.came r.auto.0 (kept t) r.ensures;
+      stopped = stopped_as r.result.came r.auto.0 (kept t) r.ensures;
       counted = (search rules, refl);
       line_made = made;
-      verified-means = λ verified. after-means (held t) text (sym made ∙ verified);
+      verified_means = λ verified. after-means (held t) text (sym made ∙ verified);
     }
 
 returns-2 : tie.Need-returns-2
@@ -38,12 +38,12 @@ returns-2 c =
     let t = a.before.before.before.before in
     let r = t.before.before.read-input in
     let text = take r.result.came r.new.0 in
-    let made = line_after (held t) text a.before.before.before.if1.false a.answer.ensures.line_made in
+    let made = line_after_lem (held t) text a.before.before.before.if1.false a.answer.ensures.line_made in
     record {
-      stopped = stopped-as r.result.came r.auto.0 (kept t) r.ensures;
+      stopped = stopped_as r.result.came r.auto.0 (kept t) r.ensures;
       counted = a.answer.ensures.counted;
       line_made = made;
-      verified-means = λ verified. after-means (held t) text (sym made ∙ verified);
+      verified_means = λ verified. after-means (held t) text (sym made ∙ verified);
     }
 
 pub run_spec : {M : Type 1} → statement M

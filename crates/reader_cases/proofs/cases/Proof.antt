@@ -13,7 +13,7 @@ invariant-loop text at₀ t5 t6 at = Unit {0}
 abbrev decreases-loop : tie.decreases-loop
 decreases-loop text at₀ t5 t6 at = length text - at
 
-pub cases-spec : {M : Type 1} → statement M
-cases-spec = tie.close (tie.spec invariant-loop decreases-loop (λ c. search rules) (λ c. search rules) (λ c. search rules) (λ c. search rules)
+pub cases_spec : {M : Type 1} → statement M
+cases_spec = tie.close (tie.spec invariant-loop decreases-loop (λ c. search rules) (λ c. search rules) (λ c. search rules) (λ c. search rules)
     (λ c. search rules) (λ c. search rules) (λ c. search rules) (λ c. search rules) (λ c. search rules) (λ c. search rules)
     (λ c. search rules) (λ c. search rules) (λ c. search rules) (λ c. search rules))

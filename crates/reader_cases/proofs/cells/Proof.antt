@@ -11,6 +11,6 @@ invariant-loop table from to i₀ t5 i = Unit {0}
 abbrev decreases-loop : tie.decreases-loop
 decreases-loop table from to i₀ t5 i = to - i
 
-pub cells-spec : {M : Type 1} → statement M
-cells-spec = tie.close (tie.spec invariant-loop decreases-loop (λ c. search rules) (λ c. search rules) (λ c. search rules) (λ c. search rules)
+pub cells_spec : {M : Type 1} → statement M
+cells_spec = tie.close (tie.spec invariant-loop decreases-loop (λ c. search rules) (λ c. search rules) (λ c. search rules) (λ c. search rules)
     (λ c. search rules) (λ c. search rules) (λ c. search rules) (λ c. search rules) (λ c. search rules) (λ c. search rules))

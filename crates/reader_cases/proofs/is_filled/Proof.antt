@@ -12,6 +12,6 @@ invariant-loop table from i₀ i = Unit {0}
 abbrev decreases-loop : tie.decreases-loop
 decreases-loop table from i₀ i = length table - i
 
-pub is-filled-spec : {M : Type 1} → statement M
-is-filled-spec = tie.close (tie.spec invariant-loop decreases-loop (λ c. search rules) (λ c. search rules) (λ c. search rules)
+pub is_filled_spec : {M : Type 1} → statement M
+is_filled_spec = tie.close (tie.spec invariant-loop decreases-loop (λ c. search rules) (λ c. search rules) (λ c. search rules)
     (λ c. search rules) (λ c. search rules) (λ c. search rules) (λ c. search rules) (λ c. search rules))

@@ -11,7 +11,7 @@ invariant-loop table from to i₀ t5 i = Unit {0}
 abbrev decreases-loop : tie.decreases-loop
 decreases-loop table from to i₀ t5 i = to - i
 
-pub value-cells-spec : {M : Type 1} → statement M
-value-cells-spec = tie.close (tie.spec invariant-loop decreases-loop (λ c. search rules) (λ c. search rules) (λ c. search rules)
+pub value_cells_spec : {M : Type 1} → statement M
+value_cells_spec = tie.close (tie.spec invariant-loop decreases-loop (λ c. search rules) (λ c. search rules) (λ c. search rules)
     (λ c. search rules) (λ c. search rules) (λ c. search rules) (λ c. search rules) (λ c. search rules) (λ c. search rules)
     (λ c. search rules))

@@ -10,7 +10,7 @@
 --   under `range` and max no feasible point has one above a finite ub, and a listed solution has one of at least a finite lb.
 --
 -- Nothing here refers to checking, and nothing bounds the size of a point. A row's terms are its own, or the objective's where
--- it says `OBJ` (`termsOf`); a variable that a solution does not list has the value 0 (`valueIn`). A fraction stands for a
+-- it says `OBJ` (`terms_of`); a variable that a solution does not list has the value 0 (`value_in`). A fraction stands for a
 -- rational number (`exact`). Rational numbers are quotients of whole numbers, `top` over `bottom`, compared by cross products:
 -- y ≤Q z says that y.top · z.bottom is at most z .top · y.bottom, and y ≈ z that the two are equal. That is the order and the
 -- equality of the rational numbers where both bottoms are positive, and all that are compared here are (`DenominatorsPositive`).
@@ -23,7 +23,7 @@ use Rattle.arithmetic.specs.Fraction.{exact}
 use Rattle.grammar.specs.Tree.{Term, Sense, equal, at_most, at_least, Row, Direction, minimize, maximize, End, infinite, finite, Claim, infeas, range, Solution, Tree}
 use Rattle.grammar.specs.Texts.{SpellsTree}
 use Rattle.rules.specs.Tests.{All, Some, EveryBelow}
-use Rattle.rules.specs.Rows.{variables, valueIn, objective, termsOf}
+use Rattle.rules.specs.Rows.{variables, value_in, objective, terms_of}
 
 -- ---- points
 
@@ -43,8 +43,8 @@ value_at [] x = whole_q (pos 0)
 value_at (t ∷ ts) x = exact t.coefficient *Q coordinate x t.variable +Q value_at ts x
 
 -- the objective at a point
-abbrev pub objectiveAt : Tree → Point → Quotient
-objectiveAt tree x = value_at (objective tree) x
+abbrev pub objective_at : Tree → Point → Quotient
+objective_at tree x = value_at (objective tree) x
 
 -- ---- feasible points
 
@@ -56,34 +56,34 @@ Compares at_least y z = z ≤Q y
 
 -- a row holds at a point
 abbrev pub HoldsAt : Tree → Point → Row → Type 0
-HoldsAt tree x row = Compares row.sense (value_at (termsOf tree row) x) (exact row.right)
+HoldsAt tree x row = Compares row.sense (value_at (terms_of tree row) x) (exact row.right)
 
 -- "integer variables taking whole values", and every given row holds
 pub record FeasiblePoint (tree : Tree) (x : Point) : Type 0 where
   pub integers-whole : All (λ v. (z : ℤ) × (coordinate x v ≈ whole_q z)) tree.integers.indices
-  pub rows-hold : All (HoldsAt tree x) tree.constraints.rows
+  pub rows_hold : All (HoldsAt tree x) tree.constraints.rows
 
 -- ---- listed solutions
 
 -- the point that a solution lists
 abbrev pub IsPointOf : Tree → Solution → Point → Type 0
-IsPointOf tree s x = EveryBelow (variables tree) (λ v. coordinate x v ≈ exact (valueIn s.values.terms v))
+IsPointOf tree s x = EveryBelow (variables tree) (λ v. coordinate x v ≈ exact (value_in s.values.terms v))
 
 -- "each listed solution is a feasible point": there is a point that it lists, and each that it lists is feasible
 pub record SolutionFeasible (tree : Tree) (s : Solution) : Type 0 where
   pub point : Point
-  pub is-point : IsPointOf tree s point
+  pub is_point : IsPointOf tree s point
   pub feasible : (x : Point) → IsPointOf tree s x → FeasiblePoint tree x
 
 -- ---- the claim
 
 -- P of the objective at every feasible point; P of the objective at a listed solution, which is a feasible point
 abbrev pub EveryFeasible : Tree → (Quotient → Type 0) → Type 0
-EveryFeasible tree P = (x : Point) → FeasiblePoint tree x → P (objectiveAt tree x)
+EveryFeasible tree P = (x : Point) → FeasiblePoint tree x → P (objective_at tree x)
 
 abbrev pub SomeListed : Tree → (Quotient → Type 0) → Type 0
 SomeListed tree P =
-    Some (λ s. (x : Point) × IsPointOf tree s x × FeasiblePoint tree x × P (objectiveAt tree x)) tree.solutions.solutions
+    Some (λ s. (x : Point) × IsPointOf tree s x × FeasiblePoint tree x × P (objective_at tree x)) tree.solutions.solutions
 
 -- P of a finite end
 abbrev pub IfFinite : End → (Quotient → Type 0) → Type 0
@@ -110,23 +110,23 @@ EndsPositive (range lower upper) = IfFinite lower Positive × IfFinite upper Pos
 -- every rational number that is compared above has a positive denominator: the sums at a point, the right sides, the values that
 -- solutions list, and the ends. A point's own is positive by itself, and a whole number's is 1
 pub record DenominatorsPositive (tree : Tree) : Type 0 where
-  pub left-sides : (x : Point) → All (λ (row : Row). Positive (value_at (termsOf tree row) x)) tree.constraints.rows
-  pub right-sides : All (λ (row : Row). Positive (exact row.right)) tree.constraints.rows
-  pub objectives : (x : Point) → Positive (objectiveAt tree x)
-  pub solutions : All (λ (s : Solution). (v : ℕ) → Positive (exact (valueIn s.values.terms v))) tree.solutions.solutions
+  pub left_sides : (x : Point) → All (λ (row : Row). Positive (value_at (terms_of tree row) x)) tree.constraints.rows
+  pub right_sides : All (λ (row : Row). Positive (exact row.right)) tree.constraints.rows
+  pub objectives : (x : Point) → Positive (objective_at tree x)
+  pub solutions : All (λ (s : Solution). (v : ℕ) → Positive (exact (value_in s.values.terms v))) tree.solutions.solutions
   pub ends : EndsPositive tree.relation.claim
 
 -- ---- the sentence
 
 -- of a certificate
 pub record Sentence (tree : Tree) : Type 0 where
-  pub solutions-feasible : All (SolutionFeasible tree) tree.solutions.solutions
-  pub claim-true : ClaimTrue tree tree.objective.direction tree.relation.claim
+  pub solutions_feasible : All (SolutionFeasible tree) tree.solutions.solutions
+  pub claim_true : ClaimTrue tree tree.objective.direction tree.relation.claim
 
 -- of a text: it spells a certificate, and no other, whose denominators are positive, and the sentence holds of that one
 pub record SentenceOf (text : Bytes) : Type 0 where
   pub tree : Tree
   pub spelled : SpellsTree text tree
-  pub spelled-once : (other : Tree) → SpellsTree text other → tree ≡ other
-  pub denominators-positive : DenominatorsPositive tree
+  pub spelled_once : (other : Tree) → SpellsTree text other → tree ≡ other
+  pub denominators_positive : DenominatorsPositive tree
   pub sentence : Sentence tree

@@ -4,24 +4,24 @@
 use Rattle.std.specs.Prelude.{◌≡◌}
 use Rattle.text.specs.Bytes.{Bytes}
 use Rattle.grammar.specs.Tree.{Tree}
-use Rattle.grammar.specs.Texts.{SpellsTree, spelled-once}
+use Rattle.grammar.specs.Texts.{SpellsTree, spelled_once}
 use Rattle.rules.specs.Result.{fine}
-use Rattle.rules.specs.Check.{checkOf}
-use Rattle.rules.specs.Agreement.{check-says}
+use Rattle.rules.specs.Check.{check_of}
+use Rattle.rules.specs.Agreement.{check_says}
 use Rattle.rules.specs.Sentence.Points.{DenominatorsPositive, SentenceOf}
-use Rattle.rules.specs.Sentence.Spelled.{spelled-formed}
-use Rattle.rules.specs.Sentence.Denominators.{formed-positive}
+use Rattle.rules.specs.Sentence.Spelled.{spelled_formed}
+use Rattle.rules.specs.Sentence.Denominators.{formed_positive}
 use Rattle.rules.specs.Sentence.Meaning.{sentence}
 
-pub denominators-positive : (text : Bytes) (tree : Tree) → SpellsTree text tree → DenominatorsPositive tree
-denominators-positive text tree s = formed-positive tree (spelled-formed tree s.tokens s.spelled)
+pub denominators_positive : (text : Bytes) (tree : Tree) → SpellsTree text tree → DenominatorsPositive tree
+denominators_positive text tree s = formed_positive tree (spelled_formed tree s.tokens s.spelled)
 
-pub verified-means : (text : Bytes) (tree : Tree) → SpellsTree text tree → checkOf tree ≡ fine → SentenceOf text
-verified-means text tree s e =
+pub verified_means : (text : Bytes) (tree : Tree) → SpellsTree text tree → check_of tree ≡ fine → SentenceOf text
+verified_means text tree s e =
     record {
       tree = tree;
       spelled = s;
-      spelled-once = λ other t. spelled-once text tree other s t;
-      denominators-positive = denominators-positive text tree s;
-      sentence = sentence tree (spelled-formed tree s.tokens s.spelled) ((check-says tree).0 e);
+      spelled_once = λ other t. spelled_once text tree other s t;
+      denominators_positive = denominators_positive text tree s;
+      sentence = sentence tree (spelled_formed tree s.tokens s.spelled) ((check_says tree).0 e);
     }

@@ -8,5 +8,5 @@ use Rattle.senses.proofs.same_sense.Tie as tie
 returns : tie.Need-returns
 returns c = ap₂ eqb c.before.sense-cell.ensures c.sense-cell2.ensures
 
-pub same-sense-spec : {M : Type 1} → statement M
-same-sense-spec = tie.close (tie.spec (λ c. search rules) (λ c. search rules) returns)
+pub same_sense_spec : {M : Type 1} → statement M
+same_sense_spec = tie.close (tie.spec (λ c. search rules) (λ c. search rules) returns)

@@ -7,5 +7,5 @@ use Rattle.sets.proofs.without.Tie as tie
 returns : tie.Need-returns
 returns c = λ k. bit-without _ _ k c.ranges.a.fits c.ranges.b.fits
 
-pub without-spec : {M : Type 1} → statement M
-without-spec = tie.close (tie.spec returns)
+pub without_spec : {M : Type 1} → statement M
+without_spec = tie.close (tie.spec returns)

@@ -13,6 +13,6 @@ returns-2 c = rw (c.before.before.before.a.given.1, c.enum-told2.given.1) refl
 returns-3 : tie.Need-returns-3
 returns-3 c = rw (c.before.before.before.before.a.given.1, c.before.s.given.1) refl
 
-pub carry-spec : {M : Type 1} → statement M
-carry-spec = tie.close (tie.spec (λ c. search rules) (λ c. search rules) returns (λ c. search rules) (λ c. search rules)
+pub carry_spec : {M : Type 1} → statement M
+carry_spec = tie.close (tie.spec (λ c. search rules) (λ c. search rules) returns (λ c. search rules) (λ c. search rules)
     returns-2 returns-3)

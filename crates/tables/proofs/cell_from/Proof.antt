@@ -1,16 +1,16 @@
 -- `tables::cell_from` meets its contract: a sum beyond the end is no cell.
-use Rattle.tables.specs.CellsLaws.{cell-beyond}
+use Rattle.tables.specs.CellsLaws.{cell_beyond}
 use borrow.Author.Rules.{rules}
 use native.Mathlib.Omega.{arith}
 use Rattle.tables.proofs.cell_from.Statement.{statement}
 use Rattle.tables.proofs.cell_from.Tie as tie
 
 returns-2 : tie.Need-returns-2
-returns-2 c = cell-beyond _ _ (omega arith)
+returns-2 c = cell_beyond _ _ (omega arith)
 
 returns-3 : tie.Need-returns-3
-returns-3 c = cell-beyond _ _ (omega arith)
+returns-3 c = cell_beyond _ _ (omega arith)
 
-pub cell-from-spec : {M : Type 1} → statement M
-cell-from-spec = tie.close (tie.spec (λ c. search rules) (λ c. search rules) (λ c. search rules) (λ c. search rules) returns-2
+pub cell_from_spec : {M : Type 1} → statement M
+cell_from_spec = tie.close (tie.spec (λ c. search rules) (λ c. search rules) (λ c. search rules) (λ c. search rules) returns-2
     returns-3)

@@ -15,6 +15,6 @@ returns-2 c = sym (part_none _ _ _ (omega arith))
 returns-3 : tie.Need-returns-3
 returns-3 c = part_cut _ _ _ _ refl (omega arith)
 
-pub cells-of-spec : {M : Type 1} → statement M
-cells-of-spec = tie.close (tie.spec (λ c. search rules) returns (λ c. search rules) returns-2 (λ c. search rules)
+pub cells_of_spec : {M : Type 1} → statement M
+cells_of_spec = tie.close (tie.spec (λ c. search rules) returns (λ c. search rules) returns-2 (λ c. search rules)
     (λ c. search rules) (λ c. search rules) (λ c. search rules) (λ c. search rules) returns-3)

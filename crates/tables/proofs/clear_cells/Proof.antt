@@ -2,7 +2,7 @@
 use mathlib.Core.Path.{◌≡◌, refl}
 use Prim.Native.Nat.{◌-◌}
 use lib.ListN.{length}
-use Rattle.tables.proofs.Clearing.{Cleared, cleared-none, cleared_more, cleared-all}
+use Rattle.tables.proofs.Clearing.{Cleared, cleared_none, cleared_more, cleared_all}
 use borrow.Author.Rules.{rules}
 use native.Mathlib.Omega.{arith}
 use Rattle.tables.proofs.clear_cells.Statement.{statement}
@@ -15,7 +15,7 @@ abbrev decreases-loop : tie.decreases-loop
 decreases-loop table₀ i₀ i-end table i = i-end - i
 
 loop-holds : tie.Need-loop-init invariant-loop decreases-loop
-loop-holds c = (cleared-none 0 _, refl)
+loop-holds c = (cleared_none 0 _, refl)
 
 loop-again : tie.Need-loop-preserved invariant-loop decreases-loop
 loop-again c = (cleared_more 0 c.before.loop.invariant.0 (omega (arith, c.before.loop.invariant.1, c.loop-test.true)), c.before.loop.invariant.1)
@@ -24,8 +24,8 @@ same_length : tie.Need-same-length invariant-loop decreases-loop
 same_length c = c.before.loop.invariant.0.long
 
 returns : tie.Need-returns invariant-loop decreases-loop
-returns c = cleared-all 0 c.before.loop.invariant.0 (omega (arith, c.before.loop.invariant.1, c.loop-test.false))
+returns c = cleared_all 0 c.before.loop.invariant.0 (omega (arith, c.before.loop.invariant.1, c.loop-test.false))
 
-pub clear-cells-spec : {M : Type 1} → statement M
-clear-cells-spec = tie.close (tie.spec invariant-loop decreases-loop loop-holds (λ c. search rules) (λ c. search rules) (λ c. search rules)
+pub clear_cells_spec : {M : Type 1} → statement M
+clear_cells_spec = tie.close (tie.spec invariant-loop decreases-loop loop-holds (λ c. search rules) (λ c. search rules) (λ c. search rules)
     (λ c. search rules) loop-again same_length returns)

@@ -3,7 +3,7 @@ use mathlib.Core.Path.{◌≡◌, refl}
 use Prim.Native.Nat.{◌-◌}
 use lib.IntN.{pos}
 use lib.ListN.{length}
-use Rattle.tables.proofs.Clearing.{Cleared, cleared-none, cleared_more, cleared-all}
+use Rattle.tables.proofs.Clearing.{Cleared, cleared_none, cleared_more, cleared_all}
 use borrow.Author.Rules.{rules}
 use native.Mathlib.Omega.{arith}
 use Rattle.tables.proofs.clear_values.Statement.{statement}
@@ -16,7 +16,7 @@ abbrev decreases-loop : tie.decreases-loop
 decreases-loop values₀ i₀ i-end values i = i-end - i
 
 loop-holds : tie.Need-loop-init invariant-loop decreases-loop
-loop-holds c = (cleared-none (pos 0) _, refl)
+loop-holds c = (cleared_none (pos 0) _, refl)
 
 loop-again : tie.Need-loop-preserved invariant-loop decreases-loop
 loop-again c = (cleared_more (pos 0) c.before.loop.invariant.0 (omega (arith, c.before.loop.invariant.1, c.loop-test.true)), c.before.loop.invariant.1)
@@ -25,8 +25,8 @@ same_length : tie.Need-same-length invariant-loop decreases-loop
 same_length c = c.before.loop.invariant.0.long
 
 returns : tie.Need-returns invariant-loop decreases-loop
-returns c = cleared-all (pos 0) c.before.loop.invariant.0 (omega (arith, c.before.loop.invariant.1, c.loop-test.false))
+returns c = cleared_all (pos 0) c.before.loop.invariant.0 (omega (arith, c.before.loop.invariant.1, c.loop-test.false))
 
-pub clear-values-spec : {M : Type 1} → statement M
-clear-values-spec = tie.close (tie.spec invariant-loop decreases-loop loop-holds (λ c. search rules) (λ c. search rules) (λ c. search rules)
+pub clear_values_spec : {M : Type 1} → statement M
+clear_values_spec = tie.close (tie.spec invariant-loop decreases-loop loop-holds (λ c. search rules) (λ c. search rules) (λ c. search rules)
     (λ c. search rules) loop-again same_length returns)

@@ -1,6 +1,6 @@
 -- `tables::store_cell` meets its contract: a store beyond the end, or of a number that no cell holds, changes nothing.
 use mathlib.Core.Path.{sym}
-use Rattle.tables.specs.CellsLaws.{with_cell, with_none, with-cell-beyond}
+use Rattle.tables.specs.CellsLaws.{with_cell_lem, with_none, with_cell_beyond}
 use borrow.Author.Rules.{rules}
 use native.Mathlib.Omega.{arith}
 use Rattle.tables.proofs.store_cell.Statement.{statement}
@@ -10,11 +10,11 @@ returns : tie.Need-returns
 returns c = sym (with_none _ _ _ c.if1.true)
 
 returns-2 : tie.Need-returns-2
-returns-2 c = sym (with_cell _ _ _ (omega arith))
+returns-2 c = sym (with_cell_lem _ _ _ (omega arith))
 
 returns-3 : tie.Need-returns-3
-returns-3 c = sym (with-cell-beyond _ _ _ (omega arith))
+returns-3 c = sym (with_cell_beyond _ _ _ (omega arith))
 
-pub store-cell-spec : {M : Type 1} → statement M
-store-cell-spec = tie.close (tie.spec returns (λ c. search rules) (λ c. search rules) (λ c. search rules) (λ c. search rules)
+pub store_cell_spec : {M : Type 1} → statement M
+store_cell_spec = tie.close (tie.spec returns (λ c. search rules) (λ c. search rules) (λ c. search rules) (λ c. search rules)
     returns-2 returns-3)

@@ -1,7 +1,7 @@
-use Rattle.tables.proofs.Entries.{entry-stored}
+use Rattle.tables.proofs.Entries.{entry_stored}
 -- `tables::store_entry` meets its contract: its four cells, one after the other.
 use mathlib.Core.Path.{sym}
-use Rattle.tables.specs.CellsLaws.{with-entry-beyond}
+use Rattle.tables.specs.CellsLaws.{with_entry_beyond}
 use borrow.Author.Rules.{rules}
 use native.Mathlib.Omega.{arith}
 use Rattle.tables.proofs.store_entry.Statement.{statement}
@@ -14,11 +14,11 @@ returns c =
     let second = third.before.before.before.before in
     let first = second.before.before.before.before in
     let a = first.before.before.before.before.args in
-    entry-stored a.rows.now a.r a.e first.store-cell.ensures second.store-cell2.ensures third.store-cell3.ensures fourth.store-cell4.ensures
+    entry_stored a.rows.now a.r a.e first.store-cell.ensures second.store-cell2.ensures third.store-cell3.ensures fourth.store-cell4.ensures
 
 returns-2 : tie.Need-returns-2
-returns-2 c = sym (with-entry-beyond _ _ _ (omega arith))
+returns-2 c = sym (with_entry_beyond _ _ _ (omega arith))
 
-pub store-entry-spec : {M : Type 1} → statement M
-store-entry-spec = tie.close (tie.spec (λ c. search rules) (λ c. search rules) (λ c. search rules) (λ c. search rules)
+pub store_entry_spec : {M : Type 1} → statement M
+store_entry_spec = tie.close (tie.spec (λ c. search rules) (λ c. search rules) (λ c. search rules) (λ c. search rules)
     (λ c. search rules) (λ c. search rules) (λ c. search rules) (λ c. search rules) (λ c. search rules) returns returns-2)

@@ -9,6 +9,6 @@ use Rattle.tables.proofs.store_number.Tie as tie
 returns-2 : tie.Need-returns-2
 returns-2 c = sym (set_out _ _ _ (omega arith))
 
-pub store-number-spec : {M : Type 1} → statement M
-store-number-spec = tie.close (tie.spec (λ c. search rules) (λ c. search rules) (λ c. search rules) (λ c. search rules)
+pub store_number_spec : {M : Type 1} → statement M
+store_number_spec = tie.close (tie.spec (λ c. search rules) (λ c. search rules) (λ c. search rules) (λ c. search rules)
     returns-2)

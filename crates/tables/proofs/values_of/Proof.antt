@@ -22,7 +22,7 @@ returns-4 c =
     let p = a.p in
     part_cut a.values.now (2 * p.number) (2 * p.count) (2 * (p.number + p.count)) (omega arith) (omega arith)
 
-pub values-of-spec : {M : Type 1} → statement M
-values-of-spec = tie.close (tie.spec (λ c. search rules) returns (λ c. search rules) returns-2 (λ c. search rules)
+pub values_of_spec : {M : Type 1} → statement M
+values_of_spec = tie.close (tie.spec (λ c. search rules) returns (λ c. search rules) returns-2 (λ c. search rules)
     (λ c. search rules) (λ c. search rules) (λ c. search rules) returns-3 (λ c. search rules) (λ c. search rules)
     (λ c. search rules) (λ c. search rules) returns-4)

@@ -2,18 +2,18 @@
 -- Assumes nothing.
 use mathlib.Core.Path.{sym, ◌∙◌}
 use borrow.Author.Rules.{rules}
-use Rattle.text.proofs.Tests.{none-past, none-at-separator, at-the-start, by-the-one-before}
+use Rattle.text.proofs.Tests.{none_past, none_at_separator, at-the-start, by_the-one_before}
 use Rattle.text.proofs.begins_token.Statement.{statement}
 use Rattle.text.proofs.begins_token.Tie as tie
 
 returns : tie.Need-returns
-returns c = let a = c.before.before.args in none-past a.text.now a.place c.if1.true
+returns c = let a = c.before.before.args in none_past a.text.now a.place c.if1.true
 
 returns-2 : tie.Need-returns-2
 returns-2 c =
     let i = c.before.before.before in
     let a = i.before.before.args in
-    none-at-separator a.text.now a.place i.if1.false (sym c.before.is-separator.ensures ∙ c.if2.true)
+    none_at_separator a.text.now a.place i.if1.false (sym c.before.is-separator.ensures ∙ c.if2.true)
 
 returns-3 : tie.Need-returns-3
 returns-3 c =
@@ -27,8 +27,8 @@ returns-4 c =
     let i = z.before.before.before.before in
     let a = i.before.before.args in
     c.is-separator2.ensures
-    ∙ by-the-one-before a.text.now a.place i.if1.false (sym z.before.before.is-separator.ensures ∙ z.before.if2.false) z.if3.false
+    ∙ by_the-one_before a.text.now a.place i.if1.false (sym z.before.before.is-separator.ensures ∙ z.before.if2.false) z.if3.false
 
-pub begins-token-spec : {M : Type 1} → statement M
-begins-token-spec = tie.close (tie.spec returns (λ c. search rules) (λ c. search rules) returns-2 returns-3 (λ c. search rules)
+pub begins_token_spec : {M : Type 1} → statement M
+begins_token_spec = tie.close (tie.spec returns (λ c. search rules) (λ c. search rules) returns-2 returns-3 (λ c. search rules)
     (λ c. search rules) (λ c. search rules) returns-4)

@@ -6,7 +6,7 @@ use borrow.Author.Rules.{rules}
 use native.Mathlib.Omega.{arith}
 use lib.ListN.{length, drop}
 use Rattle.text.specs.Bytes.{same}
-use Rattle.text.proofs.Turns.{same-longer, same_more, same_not, same-all}
+use Rattle.text.proofs.Turns.{same_longer, same_more, same_not, same-all}
 use Rattle.text.proofs.same_bytes.Statement.{statement}
 use Rattle.text.proofs.same_bytes.Tie as tie
 
@@ -17,7 +17,7 @@ abbrev decreases-loop : tie.decreases-loop
 decreases-loop a b i₀ i = length a - i
 
 returns : tie.Need-returns invariant-loop decreases-loop
-returns c = sym (same-longer c.before.args.a.now c.before.args.b.now c.if1.true)
+returns c = sym (same_longer c.before.args.a.now c.before.args.b.now c.if1.true)
 
 loop-holds : tie.Need-loop-init invariant-loop decreases-loop
 loop-holds c = (c.if1.false, omega arith, refl)
@@ -40,6 +40,6 @@ returns-3 c =
     let s = l.before.before.args in
     sym (same-all s.a.now s.b.now l.loop.i (omega arith) (omega arith)) ∙ l.loop.invariant.2
 
-pub same-bytes-spec : {M : Type 1} → statement M
-same-bytes-spec = tie.close (tie.spec invariant-loop decreases-loop returns loop-holds (λ c. search rules) (λ c. search rules) returns-2
+pub same_bytes_spec : {M : Type 1} → statement M
+same_bytes_spec = tie.close (tie.spec invariant-loop decreases-loop returns loop-holds (λ c. search rules) (λ c. search rules) returns-2
     (λ c. search rules) (λ c. search rules) loop-again returns-3)

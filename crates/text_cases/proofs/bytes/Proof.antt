@@ -12,6 +12,6 @@ invariant-loop part i₀ i = Unit {0}
 abbrev decreases-loop : tie.decreases-loop
 decreases-loop part i₀ i = length part - i
 
-pub bytes-spec : {M : Type 1} → statement M
-bytes-spec = tie.close (tie.spec invariant-loop decreases-loop (λ c. search rules) (λ c. search rules) (λ c. search rules) (λ c. search rules)
+pub bytes_spec : {M : Type 1} → statement M
+bytes_spec = tie.close (tie.spec invariant-loop decreases-loop (λ c. search rules) (λ c. search rules) (λ c. search rules) (λ c. search rules)
     (λ c. search rules) (λ c. search rules) (λ c. search rules))

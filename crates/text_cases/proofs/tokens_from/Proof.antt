@@ -18,19 +18,19 @@ abbrev decreases-loop : tie.decreases-loop
 decreases-loop text at next₀ next = length text + 1 - next
 
 -- the token that was found
-token-found : (c : tie.After-token invariant-loop decreases-loop)
+token_found : (c : tie.After-token invariant-loop decreases-loop)
     → Found c.before.before.before.before.before.before.before.before.args.text.now c.before.before.before.before.before.before.loop.next
     c.before.before.from.given.0.0 c.before.before.from.given.0.1.0
-token-found c =
+token_found c =
     let n = c.before.before.before.before in
-    found n.before.before.before.before.args.text.now n.before.before.loop.next (sym n.next-token.ensures.by-definition ∙ c.before.before.from.given.1)
+    found n.before.before.before.before.args.text.now n.before.before.loop.next (sym n.next-token.ensures.by_definition ∙ c.before.before.from.given.1)
 
 add-next : tie.Need-overflow-add-next invariant-loop decreases-loop
-add-next c = omega (arith, (token-found c).inside)
+add-next c = omega (arith, (token_found c).inside)
 
 loop-less : tie.Need-loop-smaller invariant-loop decreases-loop
-loop-less c = omega (arith, (token-found c).ahead, (token-found c).not-empty, (token-found c).inside)
+loop-less c = omega (arith, (token_found c).ahead, (token_found c).not-empty, (token_found c).inside)
 
-pub tokens-from-spec : {M : Type 1} → statement M
-tokens-from-spec = tie.close (tie.spec invariant-loop decreases-loop (λ c. search rules) (λ c. search rules) (λ c. search rules)
+pub tokens_from_spec : {M : Type 1} → statement M
+tokens_from_spec = tie.close (tie.spec invariant-loop decreases-loop (λ c. search rules) (λ c. search rules) (λ c. search rules)
     (λ c. search rules) add-next loop-less (λ c. search rules) (λ c. search rules) (λ c. search rules) (λ c. search rules))

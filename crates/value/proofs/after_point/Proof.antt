@@ -17,5 +17,5 @@ returns c = rw (eq-eqb _ 46 c.if1.true)
 returns-2 : tie.Need-returns-2
 returns-2 c = rw (ne_eqb _ 46 c.if1.false)
 
-pub after-point-spec : {M : Type 1} → statement M
-after-point-spec = tie.close (tie.spec shared-slice-read-if1 add-result returns returns-2)
+pub after_point_spec : {M : Type 1} → statement M
+after_point_spec = tie.close (tie.spec shared-slice-read-if1 add-result returns returns-2)

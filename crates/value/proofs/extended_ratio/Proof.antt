@@ -9,11 +9,11 @@ use lib.Dec.{eqb}
 use lib.ListN.{length, drop, get_or}
 use Rattle.text.specs.Bytes.{Bytes}
 use Rattle.numerals.specs.Spelling.{Exponent}
-use Rattle.numerals.specs.Reading.{scaledBy, withTail, outcomeOf}
+use Rattle.numerals.specs.Reading.{scaled_by, with_tail, outcome_of}
 use Rattle.value.specs.Runs.{Significant}
 use Rattle.numerals.proofs.Numbers.{length_digits}
-use Rattle.value.proofs.Scaled.{misspelled-exponent}
-use Rattle.value.proofs.Tokens.{letter-from, letter-missing}
+use Rattle.value.proofs.Scaled.{misspelled_exponent}
+use Rattle.value.proofs.Tokens.{letter_from, letter_missing}
 use Rattle.value.proofs.extended_ratio.Statement.{statement}
 use Rattle.value.proofs.extended_ratio.Tie as tie
 
@@ -45,15 +45,15 @@ returns c =
           c.scaled-ratio.ensures.1 s w after (eqb (get_or a.token.now a.end 0) 69)
           (subst (λ (v : Bytes). Significant (w ++ v) at_read.read-on.result) (sym p) (at_read.read-on.ensures.significant w g))
           (ap length p ∙ omega (arith, length_digits t, at-start.requires.1))
-          ∙ ap (λ (o : Option Exponent). outcomeOf (withTail s w (scaledBy after o))) (sym (letter-from a.token.now a.end at-start.requires.2 (sym at_read.before.before.is-letter.ensures ∙ at_read.before.if1.true))),
+          ∙ ap (λ (o : Option Exponent). outcome_of (with_tail s w (scaled_by after o))) (sym (letter_from a.token.now a.end at-start.requires.2 (sym at_read.before.before.is-letter.ensures ∙ at_read.before.if1.true))),
     )
 
 returns-2 : tie.Need-returns-2
 returns-2 c =
     let at-start = c.before.before.before.before in
     let a = at-start.args in
-    (tt, λ s w after g p. sym (misspelled-exponent s w after _ (letter-missing a.token.now a.end at-start.requires.2 (sym c.before.is-letter.ensures ∙ c.if1.false))))
+    (tt, λ s w after g p. sym (misspelled_exponent s w after _ (letter_missing a.token.now a.end at-start.requires.2 (sym c.before.is-letter.ensures ∙ c.if1.false))))
 
-pub extended-ratio-spec : {M : Type 1} → statement M
-extended-ratio-spec = tie.close (tie.spec shared-slice-read-is-letter (λ c. search rules) read-on-requires sub-scaled-ratio
+pub extended_ratio_spec : {M : Type 1} → statement M
+extended_ratio_spec = tie.close (tie.spec shared-slice-read-is-letter (λ c. search rules) read-on-requires sub-scaled-ratio
     add-scaled-ratio scaled-ratio-requires returns returns-2)

@@ -3,9 +3,9 @@
 use borrow.Author.Rules.{rules}
 use native.Mathlib.Omega.{arith}
 use lib.ListN.{drop, length-drop}
-use Rattle.text.specs.Bytes.{isDigit}
+use Rattle.text.specs.Bytes.{is_digit}
 use Rattle.text.specs.BytesLaws.{leading_le}
-use Rattle.value.proofs.Runs.{read_short, continued-zeros, continued-digits}
+use Rattle.value.proofs.Runs.{read_short, continued_zeros, continued_digits}
 use Rattle.value.proofs.read_on.Statement.{statement}
 use Rattle.value.proofs.read_on.Tie as tie
 
@@ -15,7 +15,7 @@ returns c =
     let a = at-if1.before.before.before.args in
     let h = c.before.read-significant.ensures in
     record {
-      significant = continued-zeros (drop a.from a.token.now) a.whole at-if1.if1.true _ h.significant;
+      significant = continued_zeros (drop a.from a.token.now) a.whole at-if1.if1.true _ h.significant;
       bounded = record { short = omega (arith, read_short a.token.now a.from _ h); small = h.bounded.small };
     }
 
@@ -30,9 +30,9 @@ returns-2 c =
     let t = drop a.from a.token.now in
     let h = c.before.read-run.ensures in
     record {
-      significant = continued-digits t a.from a.whole at-if1.if1.false _ h;
-      bounded = record { short = omega (arith, h.bounded.short, h.next-is, leading_le isDigit t, length-drop a.from a.token.now, at-start.requires.1); small = h.bounded.small };
+      significant = continued_digits t a.from a.whole at-if1.if1.false _ h;
+      bounded = record { short = omega (arith, h.bounded.short, h.next_is, leading_le is_digit t, length-drop a.from a.token.now, at-start.requires.1); small = h.bounded.small };
     }
 
-pub read-on-spec : {M : Type 1} → statement M
-read-on-spec = tie.close (tie.spec (λ c. search rules) returns read-run-requires returns-2)
+pub read_on_spec : {M : Type 1} → statement M
+read_on_spec = tie.close (tie.spec (λ c. search rules) returns read-run-requires returns-2)

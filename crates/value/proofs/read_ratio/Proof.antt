@@ -5,10 +5,10 @@ use mathlib.Core.Path.{◌∙◌, sym, ap}
 use Prim.Native.Nat.{◌+◌, ◌≤◌}
 use native.Mathlib.Omega.{arith}
 use lib.ListN.{length}
-use Rattle.numerals.specs.Reading.{outcomeOf}
-use Rattle.value.proofs.Runs.{read_short, counted-stands}
-use Rattle.value.proofs.Outcomes.{whole-outcome}
-use Rattle.value.proofs.Tokens.{no-digits, no-tail, tail_from, with_tail, run-stops}
+use Rattle.numerals.specs.Reading.{outcome_of}
+use Rattle.value.proofs.Runs.{read_short, counted_stands}
+use Rattle.value.proofs.Outcomes.{whole_outcome_lem}
+use Rattle.value.proofs.Tokens.{no_digits_lem, no_tail, tail_from, with_tail_lem, run_stops}
 use Rattle.value.proofs.read_ratio.Statement.{statement}
 use Rattle.value.proofs.read_ratio.Tie as tie
 
@@ -27,7 +27,7 @@ returns : tie.Need-returns
 returns c =
     let p = c.before in
     let a = (at-start p).args in
-    (tt, λ s. sym (no-digits s a.token.now a.from _ (at-run p).read-significant.ensures.next-is c.if1.true))
+    (tt, λ s. sym (no_digits_lem s a.token.now a.from _ (at-run p).read-significant.ensures.next_is c.if1.true))
 
 counted-requires : tie.Need-counted-requires
 counted-requires c κs =
@@ -41,8 +41,8 @@ returns-2 c =
     let a = (at-start p).args in (
       c.whole-ratio.ensures.0,
       λ s. c.whole-ratio.ensures.1 s
-          ∙ whole-outcome s _ _ (counted-stands _ _ _ (at-run p).read-significant.ensures.significant c.before.counted.ensures)
-          ∙ ap outcomeOf (sym (no-tail s a.token.now a.from _ (at-run p).read-significant.ensures.next-is at-if1.if1.false c.before.before.if2.true)),
+          ∙ whole_outcome_lem s _ _ (counted_stands _ _ _ (at-run p).read-significant.ensures.significant c.before.counted.ensures)
+          ∙ ap outcome_of (sym (no_tail s a.token.now a.from _ (at-run p).read-significant.ensures.next_is at-if1.if1.false c.before.before.if2.true)),
     )
 
 counted-requires-2 : tie.Need-counted-requires-2
@@ -56,8 +56,8 @@ returns-3 c =
     let p = at-if2.before.before in
     let a = (at-start p).args in (
       c.quotient-ratio.ensures.0,
-      λ s. c.quotient-ratio.ensures.1 s _ (counted-stands _ _ _ (at-run p).read-significant.ensures.significant c.before.counted2.ensures)
-          ∙ ap outcomeOf (sym (tail_from s a.token.now a.from _ (at-run p).read-significant.ensures.next-is at-if2.before.if1.false at-if2.if2.false 47 c.before.before.if3.true)),
+      λ s. c.quotient-ratio.ensures.1 s _ (counted_stands _ _ _ (at-run p).read-significant.ensures.significant c.before.counted2.ensures)
+          ∙ ap outcome_of (sym (tail_from s a.token.now a.from _ (at-run p).read-significant.ensures.next_is at-if2.before.if1.false at-if2.if2.false 47 c.before.before.if3.true)),
     )
 
 decimal-ratio-requires : tie.Need-decimal-ratio-requires
@@ -66,7 +66,7 @@ decimal-ratio-requires c κs =
     let p = at-if2.before.before in
     let a = (at-start p).args in
     let h = (at-run p).read-significant.ensures in
-    (h.bounded, at-if2.if2.false, run-stops a.token.now a.from _ h.next-is at-if2.if2.false, c.if3.false)
+    (h.bounded, at-if2.if2.false, run_stops a.token.now a.from _ h.next_is at-if2.if2.false, c.if3.false)
 
 returns-4 : tie.Need-returns-4
 returns-4 c =
@@ -75,9 +75,9 @@ returns-4 c =
     let a = (at-start p).args in (
       c.decimal-ratio.ensures.0,
       λ s. c.decimal-ratio.ensures.1 s _ (at-run p).read-significant.ensures.significant
-          ∙ ap outcomeOf (sym (with_tail s a.token.now a.from _ (at-run p).read-significant.ensures.next-is at-if2.before.if1.false)),
+          ∙ ap outcome_of (sym (with_tail_lem s a.token.now a.from _ (at-run p).read-significant.ensures.next_is at-if2.before.if1.false)),
     )
 
-pub read-ratio-spec : {M : Type 1} → statement M
-read-ratio-spec = tie.close (tie.spec (λ c. search rules) returns counted-requires (λ c. search rules) returns-2
+pub read_ratio_spec : {M : Type 1} → statement M
+read_ratio_spec = tie.close (tie.spec (λ c. search rules) returns counted-requires (λ c. search rules) returns-2
     (λ c. search rules) counted-requires-2 (λ c. omega arith) (λ c. search rules) returns-3 decimal-ratio-requires returns-4)

@@ -15,5 +15,5 @@ counted-requires c κs =
 returns : tie.Need-returns
 returns c = whole-read _ _ _ c.before.before.read-significant.ensures _ c.counted.ensures
 
-pub read-whole-spec : {M : Type 1} → statement M
-read-whole-spec = tie.close (tie.spec (λ c. search rules) counted-requires returns)
+pub read_whole_spec : {M : Type 1} → statement M
+read_whole_spec = tie.close (tie.spec (λ c. search rules) counted-requires returns)

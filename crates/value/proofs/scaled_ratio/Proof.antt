@@ -8,10 +8,10 @@ use lib.IntN.{ℤ, pos, ◌+ℤ◌, ◌-ℤ◌}
 use lib.ListN.{drop}
 use Rattle.integers.specs.Signs.{with_sign}
 use Rattle.text.specs.Bytes.{Bytes, number_of}
-use Rattle.numerals.specs.Reading.{afterLetter}
-use Rattle.exponents.specs.Exponents.{ExponentIs, ExponentRead, powerWithin}
-use Rattle.exponents.proofs.ExponentLaws.{saturated-power}
-use Rattle.value.proofs.Scaled.{misspelled-exponent, first-digit, scaled-zero, scaled-wide, scaled-power}
+use Rattle.numerals.specs.Reading.{after_letter}
+use Rattle.exponents.specs.Exponents.{ExponentIs, ExponentRead, power_within}
+use Rattle.exponents.proofs.ExponentLaws.{saturated_power}
+use Rattle.value.proofs.Scaled.{misspelled_exponent, first_digit, scaled-zero, scaled_wide, scaled-power}
 use Rattle.value.proofs.scaled_ratio.Statement.{statement}
 use Rattle.value.proofs.scaled_ratio.Tie as tie
 
@@ -20,7 +20,7 @@ returns c =
     let at_read = c.before.before in
     let a = at_read.before.before.args in
     let t = drop a.from a.token.now in
-    (tt, λ s w after capital g q. sym (misspelled-exponent s w after (afterLetter capital t) (subst (ExponentRead t) c.enum_told.given.1 at_read.read-exponent.ensures capital)))
+    (tt, λ s w after capital g q. sym (misspelled_exponent s w after (after_letter capital t) (subst (ExponentRead t) c.enum_told.given.1 at_read.read-exponent.ensures capital)))
 
 -- the exponent was read
 module _ (c : tie.After-minus) where
@@ -30,11 +30,11 @@ module _ (c : tie.After-minus) where
   abbrev at-start : tie.Start
   at-start = at_read.before.before
 
-  abbrev after-letter : Bytes
-  after-letter = drop at-start.args.from at-start.args.token.now
+  abbrev after_letter_lem : Bytes
+  after_letter_lem = drop at-start.args.from at-start.args.token.now
 
-  exponent : ExponentIs after-letter c.minus.given.0.0 c.minus.given.0.1.0
-  exponent = subst (ExponentRead after-letter) c.minus.given.1 at_read.read-exponent.ensures
+  exponent : ExponentIs after_letter_lem c.minus.given.0.0 c.minus.given.0.1.0
+  exponent = subst (ExponentRead after_letter_lem) c.minus.given.1 at_read.read-exponent.ensures
 
   abbrev number : ℕ
   number = c.minus.given.0.1.0
@@ -46,12 +46,12 @@ module _ (c : tie.After-minus) where
 returns-2 : tie.Need-returns-2
 returns-2 c =
     let p = c.before.before.before.before in
-    (c.whole-ratio.ensures.0, λ s w after capital g q. c.whole-ratio.ensures.1 s ∙ sym (scaled-zero s w after _ g capital (after-letter p) _ _ (exponent p) c.before.if1.true))
+    (c.whole-ratio.ensures.0, λ s w after capital g q. c.whole-ratio.ensures.1 s ∙ sym (scaled-zero s w after _ g capital (after_letter_lem p) _ _ (exponent p) c.before.if1.true))
 
 returns-3 : tie.Need-returns-3
 returns-3 c =
     let p = c.before.before.before.before.before in
-    (tt, λ s w after capital g q. sym (scaled-wide s w after _ g capital (after-letter p) _ _ (exponent p) c.if2.true))
+    (tt, λ s w after capital g q. sym (scaled_wide s w after _ g capital (after_letter_lem p) _ _ (exponent p) c.if2.true))
 
 times-power-requires : tie.Need-times-power-requires
 times-power-requires c κs =
@@ -67,14 +67,14 @@ returns-4 c =
     let a = (at-start p).args in
     let h = (at-start p).requires in
     let n = number_of (exponent p).digits in
-    let same : powerWithin (power p (number p)) ≡ powerWithin (power p n) =
-    saturated-power p.minus.given.0.0 n (number p) a.places a.digits.zeros (exponent p).number_is h.1 (omega (arith, h.0.short)) in (
+    let same : power_within (power p (number p)) ≡ power_within (power p n) =
+    saturated_power p.minus.given.0.0 n (number p) a.places a.digits.zeros (exponent p).number_is h.1 (omega (arith, h.0.short)) in (
       c.times_power.ensures.0,
       λ s w after capital g q.
-          c.times_power.ensures.1 (first-digit _ _ g at-if1.if1.false narrow) (power p n) (at-power.power-of.ensures ∙ same) s
-          ∙ sym (scaled-power s w after _ g capital (after-letter p) _ _ (exponent p) _ q at-if1.if1.false narrow),
+          c.times_power.ensures.1 (first_digit _ _ g at-if1.if1.false narrow) (power p n) (at-power.power-of.ensures ∙ same) s
+          ∙ sym (scaled-power s w after _ g capital (after_letter_lem p) _ _ (exponent p) _ q at-if1.if1.false narrow),
     )
 
-pub scaled-ratio-spec : {M : Type 1} → statement M
-scaled-ratio-spec = tie.close (tie.spec (λ c. search rules) (λ c. search rules) (λ c. search rules) returns (λ c. search rules)
+pub scaled_ratio_spec : {M : Type 1} → statement M
+scaled_ratio_spec = tie.close (tie.spec (λ c. search rules) (λ c. search rules) (λ c. search rules) returns (λ c. search rules)
     returns-2 returns-3 (λ c. search rules) times-power-requires returns-4)

@@ -2,7 +2,7 @@
 -- Assumes nothing.
 use mathlib.Core.Path.{sym}
 use native.Mathlib.Omega.{arith}
-use Rattle.value.proofs.Outcomes.{whole_wide, whole-narrow}
+use Rattle.value.proofs.Outcomes.{whole_wide, whole_narrow}
 use Rattle.value.proofs.whole_ratio.Statement.{statement}
 use Rattle.value.proofs.whole_ratio.Tie as tie
 
@@ -10,7 +10,7 @@ returns : tie.Need-returns
 returns c = (tt, λ s. sym (whole_wide s c.before.before.args.whole c.if1.true))
 
 returns-2 : tie.Need-returns-2
-returns-2 c = (omega arith, λ s. sym (whole-narrow s c.before.before.args.whole c.if1.false))
+returns-2 c = (omega arith, λ s. sym (whole_narrow s c.before.before.args.whole c.if1.false))
 
-pub whole-ratio-spec : {M : Type 1} → statement M
-whole-ratio-spec = tie.close (tie.spec returns returns-2)
+pub whole_ratio_spec : {M : Type 1} → statement M
+whole_ratio_spec = tie.close (tie.spec returns returns-2)

@@ -11,6 +11,6 @@ invariant-loop k₀ k = Unit {0}
 abbrev decreases-loop : tie.decreases-loop
 decreases-loop k₀ k = 21 - k
 
-pub first-powers-spec : {M : Type 1} → statement M
-first-powers-spec = tie.close (tie.spec invariant-loop decreases-loop (λ c. search rules) (λ c. search rules) (λ c. search rules)
+pub first_powers_spec : {M : Type 1} → statement M
+first_powers_spec = tie.close (tie.spec invariant-loop decreases-loop (λ c. search rules) (λ c. search rules) (λ c. search rules)
     (λ c. search rules) (λ c. search rules) (λ c. search rules))

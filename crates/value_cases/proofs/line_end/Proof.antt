@@ -13,6 +13,6 @@ invariant-loop text from at₀ at = (from ≤ at) × (at ≤ length text)
 abbrev decreases-loop : tie.decreases-loop
 decreases-loop text from at₀ at = length text - at
 
-pub line-end-spec : {M : Type 1} → statement M
-line-end-spec = tie.close (tie.spec invariant-loop decreases-loop (λ c. search rules) (λ c. search rules) (λ c. search rules)
+pub line_end_spec : {M : Type 1} → statement M
+line_end_spec = tie.close (tie.spec invariant-loop decreases-loop (λ c. search rules) (λ c. search rules) (λ c. search rules)
     (λ c. search rules) (λ c. search rules) (λ c. search rules) (λ c. search rules))

@@ -13,7 +13,7 @@ invariant-loop text at₀ at = Unit {0}
 abbrev decreases-loop : tie.decreases-loop
 decreases-loop text at₀ at = length text - at
 
-pub lines-spec : {M : Type 1} → statement M
-lines-spec = tie.close (tie.spec invariant-loop decreases-loop (λ c. search rules) (λ c. search rules) (λ c. search rules) (λ c. search rules)
+pub lines_spec : {M : Type 1} → statement M
+lines_spec = tie.close (tie.spec invariant-loop decreases-loop (λ c. search rules) (λ c. search rules) (λ c. search rules) (λ c. search rules)
     (λ c. search rules) (λ c. search rules) (λ c. search rules) (λ c. search rules) (λ c. search rules) (λ c. search rules)
     (λ c. search rules) (λ c. search rules) (λ c. search rules))

@@ -8,14 +8,14 @@ use lib.IntN.{ℤ, nat_abs}
 use mir.Syntax.{w32}
 use mir.Val.{SFits}
 use mir.Facts.{to_z-of_z}
-use Rattle.integers.specs.Signs.{natAbs-neg}
+use Rattle.integers.specs.Signs.{nat_abs-neg}
 use mir.Syntax.{w64}
-use Rattle.integers.proofs.Casts.{back, widen, below-zero, zero_minus, neg-fits, natAbs-fits, natAbs-small, neg-nonNeg, pos-nonNeg}
+use Rattle.integers.proofs.Casts.{back, widen, below-zero, zero_minus, neg_fits, nat_abs_fits, nat_abs_small, neg_non_neg, pos_non_neg}
 use Rattle.value_cases.proofs.number.Statement.{statement}
 use Rattle.value_cases.proofs.number.Tie as tie
 
 small : (x : ℤ) → SFits w32 x → nat_abs x < 9223372036854775808
-small x f = omega (arith, natAbs-small x f)
+small x f = omega (arith, nat_abs_small x f)
 
 cast-w : tie.Need-overflow-cast-w
 cast-w c = search (rules, widen)
@@ -24,22 +24,22 @@ sub-print-decimal : tie.Need-overflow-sub-print-decimal
 sub-print-decimal c =
     let at-start = c.before.before.before in
     let f = at-start.ranges.x in
-    rw (back f, back (widen f), zero_minus) (neg-fits w64 at-start.args.x (small at-start.args.x f))
+    rw (back f, back (widen f), zero_minus) (neg_fits w64 at-start.args.x (small at-start.args.x f))
 
 cast-print-decimal : tie.Need-overflow-cast-print-decimal
 cast-print-decimal c =
     let at-start = c.before.before.before in
     let x = at-start.args.x in
     let f = at-start.ranges.x in
-    rw (back f, back (widen f), zero_minus, to_z-of_z (neg-fits w64 x (small x f)), natAbs-neg)
-    (neg-nonNeg x (sym (below-zero x) ∙ (rw (back f, back (widen f)) at c.before.before.if1.true)), natAbs-fits x (small x f))
+    rw (back f, back (widen f), zero_minus, to_z-of_z (neg_fits w64 x (small x f)), nat_abs-neg)
+    (neg_non_neg x (sym (below-zero x) ∙ (rw (back f, back (widen f)) at c.before.before.if1.true)), nat_abs_fits x (small x f))
 
 cast-print-decimal-2 : tie.Need-overflow-cast-print-decimal-2
 cast-print-decimal-2 c =
     let x = c.before.args.x in
     let f = c.before.ranges.x in
-    rw (back f, back (widen f)) (pos-nonNeg x (sym (below-zero x) ∙ (rw (back f, back (widen f)) at c.if1.false)), natAbs-fits x (small x f))
+    rw (back f, back (widen f)) (pos_non_neg x (sym (below-zero x) ∙ (rw (back f, back (widen f)) at c.if1.false)), nat_abs_fits x (small x f))
 
-pub number-spec : {M : Type 1} → statement M
-number-spec = tie.close (tie.spec cast-w (λ c. search rules) (λ c. search rules) sub-print-decimal cast-print-decimal
+pub number_spec : {M : Type 1} → statement M
+number_spec = tie.close (tie.spec cast-w (λ c. search rules) (λ c. search rules) sub-print-decimal cast-print-decimal
     (λ c. search rules) cast-print-decimal-2 (λ c. search rules) (λ c. search rules) (λ c. search rules))

@@ -13,6 +13,6 @@ invariant-loop text from mark at₀ at = (from ≤ at) × (at ≤ length text)
 abbrev decreases-loop : tie.decreases-loop
 decreases-loop text from mark at₀ at = length text - at
 
-pub next-spec : {M : Type 1} → statement M
-next-spec = tie.close (tie.spec invariant-loop decreases-loop (λ c. search rules) (λ c. search rules) (λ c. search rules) (λ c. search rules)
+pub next_spec : {M : Type 1} → statement M
+next_spec = tie.close (tie.spec invariant-loop decreases-loop (λ c. search rules) (λ c. search rules) (λ c. search rules) (λ c. search rules)
     (λ c. search rules) (λ c. search rules) (λ c. search rules) (λ c. search rules))

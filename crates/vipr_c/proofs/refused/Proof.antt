@@ -7,5 +7,5 @@ use Rattle.vipr_c.proofs.CertificateLaws.{same_line}
 returns : tie.Need-returns
 returns c = same_line _ c.number.ensures
 
-pub refused-spec : {M : Type 1} → statement M
-refused-spec = tie.close (tie.spec (λ c. search rules) (λ c. search rules) returns)
+pub refused_spec : {M : Type 1} → statement M
+refused_spec = tie.close (tie.spec (λ c. search rules) (λ c. search rules) returns)

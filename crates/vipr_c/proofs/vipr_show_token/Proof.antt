@@ -2,10 +2,10 @@
 use borrow.Author.Rules.{rules}
 use Rattle.vipr_c.proofs.vipr_show_token.Statement.{statement}
 use Rattle.vipr_c.proofs.vipr_show_token.Tie as tie
-use Rattle.vipr_c.proofs.ShownLaws.{token-measured}
+use Rattle.vipr_c.proofs.ShownLaws.{token_measured}
 
 returns : tie.Need-returns
-returns c = token-measured _ _ c.show-token.ensures.by-definition.bytes
+returns c = token_measured _ _ c.show-token.ensures.by_definition.bytes
 
-pub vipr-show-token-spec : {M : Type 1} → statement M
-vipr-show-token-spec = tie.close (tie.spec (λ c. search rules) returns)
+pub vipr_show_token_spec : {M : Type 1} → statement M
+vipr_show_token_spec = tie.close (tie.spec (λ c. search rules) returns)

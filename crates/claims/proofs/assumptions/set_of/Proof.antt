@@ -28,7 +28,7 @@ returns-3 c =
     λ tree values d e k lt j.
     c.union-of.ensures j ∙ set-named k w.word_of.result w.word_of.ensures tree _ _ j w.before.Named-by.ensures c.before.match.keys3
 
-pub set-of-spec : {M : Type 1} → statement M
-set-of-spec = tie.close (tie.spec (λ c. search rules) (λ c. search rules) (λ c. search rules) (λ c. search rules)
+pub set_of_spec : {M : Type 1} → statement M
+set_of_spec = tie.close (tie.spec (λ c. search rules) (λ c. search rules) (λ c. search rules) (λ c. search rules)
     (λ c. search rules) (λ c. search rules) (λ c. search rules) (λ c. search rules) (λ c. search rules) (λ c. search rules)
     (λ c. search rules) (λ c. search rules) (λ c. search rules) returns returns-2 returns-3)

@@ -11,7 +11,7 @@ use borrow.Author.Rules.{rules}
 use lib.IntN.{ℤ}
 use Rattle.grammar.specs.Tree.{Tree}
 use Rattle.encoding.specs.Encodes.{Encodes}
-use Rattle.claims.proofs.MasksLaws.{Stand, sets-start, sets-on, sets_end}
+use Rattle.claims.proofs.MasksLaws.{Stand, sets_start, sets_on, sets_end}
 use Rattle.claims.proofs.assumptions.sets_of.Statement.{statement}
 use Rattle.claims.proofs.assumptions.sets_of.Tie as tie
 
@@ -22,7 +22,7 @@ abbrev decreases-loop : tie.decreases-loop
 decreases-loop index rows header end all₀ assumed₀ r₀ all assumed r = end - r
 
 loop-holds : tie.Need-loop-init invariant-loop decreases-loop
-loop-holds c = (omega arith, omega arith, λ tree values e. sets-start e)
+loop-holds c = (omega arith, omega arith, λ tree values e. sets_start e)
 
 mul-all : tie.Need-overflow-mul-all invariant-loop decreases-loop
 mul-all c = omega (arith, c.before.before.loop-test.true, c.before.before.before.before.in_array.ensures)
@@ -51,7 +51,7 @@ loop-again c =
       λ tree values e.
           let lt : l.loop.r < l.before.before.before.before.args.header.rows = omega (arith, t.loop-test.true, l.before.in_array.ensures) in
           let is = c.before.is-assumption.ensures tree values e lt in
-          sets-on e _ _ l.loop.invariant.0 lt (l.loop.invariant.2 tree values e) (λ d k. c.before.before.set-of.ensures tree values d e k lt)
+          sets_on e _ _ l.loop.invariant.0 lt (l.loop.invariant.2 tree values e) (λ d k. c.before.before.set-of.ensures tree values d e k lt)
           (⊎_elim (λ w. w.1 ∙ sym (ap (λ (b : Bool). cond b (n + 1) n) (sym is ∙ w.0.taken))) (λ w. w.1 ∙ sym (ap (λ (b : Bool). cond b (n + 1) n) (sym is ∙ w.0.left))) c.if1.branch),
     )
 
@@ -60,6 +60,6 @@ returns c =
     λ tree values e r.
     sets_end e (c.before.loop.invariant.2 tree values e) (omega (arith, c.loop-test.false, c.before.before.in_array.ensures)) r
 
-pub sets-of-spec : {M : Type 1} → statement M
-sets-of-spec = tie.close (tie.spec invariant-loop decreases-loop (λ c. search rules) loop-holds (λ c. search rules) mul-all array-write-all
+pub sets_of_spec : {M : Type 1} → statement M
+sets_of_spec = tie.close (tie.spec invariant-loop decreases-loop (λ c. search rules) loop-holds (λ c. search rules) mul-all array-write-all
     (λ c. search rules) add-assumed add_r loop-less loop-again returns)

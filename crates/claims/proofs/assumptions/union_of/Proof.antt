@@ -5,7 +5,7 @@ use Prim.Native.Nat.{◌-◌}
 use native.Mathlib.Omega.{arith}
 use borrow.Author.Rules.{rules}
 use lib.ListN.{length}
-use Rattle.claims.proofs.ReasonsLaws.{Uniting, uniting-start, uniting-on, uniting-end}
+use Rattle.claims.proofs.ReasonsLaws.{Uniting, uniting_start, uniting_on, uniting_end}
 use Rattle.claims.proofs.assumptions.union_of.Statement.{statement}
 use Rattle.claims.proofs.assumptions.union_of.Tie as tie
 
@@ -16,17 +16,17 @@ abbrev decreases-loop : tie.decreases-loop
 decreases-loop named all union₀ k₀ union k = length named - k
 
 loop-holds : tie.Need-loop-init invariant-loop decreases-loop
-loop-holds c = uniting-start _ _
+loop-holds c = uniting_start _ _
 
 cast-r : tie.Need-overflow-cast-r invariant-loop decreases-loop
 cast-r c = omega (arith, c.shared-slice-known2.given c.before.before.loop.k)
 
 loop-again : tie.Need-loop-preserved invariant-loop decreases-loop
-loop-again c = let l = c.before.before.before in uniting-on l.before.loop.invariant l.loop-test.true _ c.before.set_at.ensures c.union.ensures
+loop-again c = let l = c.before.before.before in uniting_on l.before.loop.invariant l.loop-test.true _ c.before.set_at.ensures c.union.ensures
 
 returns : tie.Need-returns invariant-loop decreases-loop
-returns c = uniting-end c.before.loop.invariant c.loop-test.false
+returns c = uniting_end c.before.loop.invariant c.loop-test.false
 
-pub union-of-spec : {M : Type 1} → statement M
-union-of-spec = tie.close (tie.spec invariant-loop decreases-loop loop-holds (λ c. search rules) (λ c. search rules) cast-r
+pub union_of_spec : {M : Type 1} → statement M
+union_of_spec = tie.close (tie.spec invariant-loop decreases-loop loop-holds (λ c. search rules) (λ c. search rules) cast-r
     (λ c. search rules) (λ c. search rules) (λ c. search rules) (λ c. search rules) loop-again returns)

@@ -4,14 +4,14 @@ use mathlib.Core.Path.{sym, ◌∙◌, ap}
 use Prim.Native.Nat.{◌-◌}
 use native.Mathlib.Omega.{arith}
 use borrow.Author.Rules.{rules}
-use Rattle.rules.specs.Claims.{lastPasses}
-use Rattle.claims.specs.Asked.{askedSays, meets}
-use Rattle.claims.proofs.AskedLaws.{no_last, last-passes, both-pass, first-fails}
+use Rattle.rules.specs.Claims.{last_passes}
+use Rattle.claims.specs.Asked.{asked_says, meets}
+use Rattle.claims.proofs.AskedLaws.{no_last, last-passes, both_pass, first_fails}
 use Rattle.claims.proofs.proving.last_answers.Statement.{statement}
 use Rattle.claims.proofs.proving.last_answers.Tie as tie
 
 returns : tie.Need-returns
-returns c = λ tree e ok. sym (ap (lastPasses tree (meets tree (askedSays tree c.before.before.before.before.args.asked))) (no_last e c.if1.true))
+returns c = λ tree e ok. sym (ap (last_passes tree (meets tree (asked_says tree c.before.before.before.before.args.asked))) (no_last e c.if1.true))
 
 returns-2 : tie.Need-returns-2
 returns-2 c =
@@ -19,8 +19,8 @@ returns-2 c =
     let lt = m.before.before.before.if1.false in
     λ tree e ok.
     let k = e.row (m.before.before.before.before.before.before.before.args.header.rows - 1) (omega (arith, lt)) in
-    both-pass (m.meets.ensures tree _ _ e (m.before.row-at.ensures tree _ k) k.formed ok) c.before.if2.true (c.is_free.ensures tree _ e)
-    ∙ last-passes e (meets tree (askedSays tree m.before.before.before.before.before.before.before.args.asked)) lt
+    both_pass (m.meets.ensures tree _ _ e (m.before.row-at.ensures tree _ k) k.formed ok) c.before.if2.true (c.is_free.ensures tree _ e)
+    ∙ last-passes e (meets tree (asked_says tree m.before.before.before.before.before.before.before.args.asked)) lt
 
 returns-3 : tie.Need-returns-3
 returns-3 c =
@@ -28,9 +28,9 @@ returns-3 c =
     let lt = m.before.before.before.if1.false in
     λ tree e ok.
     let k = e.row (m.before.before.before.before.before.before.before.args.header.rows - 1) (omega (arith, lt)) in
-    first-fails _ (m.meets.ensures tree _ _ e (m.before.row-at.ensures tree _ k) k.formed ok) c.if2.false
-    ∙ last-passes e (meets tree (askedSays tree m.before.before.before.before.before.before.before.args.asked)) lt
+    first_fails _ (m.meets.ensures tree _ _ e (m.before.row-at.ensures tree _ k) k.formed ok) c.if2.false
+    ∙ last-passes e (meets tree (asked_says tree m.before.before.before.before.before.before.before.args.asked)) lt
 
-pub last-answers-spec : {M : Type 1} → statement M
-last-answers-spec = tie.close (tie.spec returns (λ c. search rules) (λ c. search rules) (λ c. search rules) (λ c. search rules)
+pub last_answers_spec : {M : Type 1} → statement M
+last_answers_spec = tie.close (tie.spec returns (λ c. search rules) (λ c. search rules) (λ c. search rules) (λ c. search rules)
     returns-2 returns-3)

@@ -3,12 +3,12 @@ use mathlib.Core.Path.{◌∙◌, ap, ap₂, subst}
 use Prim.Native.Nat.{ℕ}
 use borrow.Author.Rules.{rules}
 use Rattle.arithmetic.specs.declared.Fraction.{Fraction}
-use Rattle.rules.specs.Derivations.{checkDominates}
+use Rattle.rules.specs.Derivations.{check_dominates}
 use Rattle.rules.specs.Sentence.Formed.{Formed}
-use Rattle.senses.specs.Senses.{constraintBy}
-use Rattle.linear.specs.Lists.{termsIn}
-use Rattle.encoding.specs.Places.{termsAt}
-use Rattle.derivations.proofs.RowsLaws.{coefficients-are, coefficients-fractions}
+use Rattle.senses.specs.Senses.{constraint_by}
+use Rattle.linear.specs.Lists.{terms_in}
+use Rattle.encoding.specs.Places.{terms_at}
+use Rattle.derivations.proofs.RowsLaws.{coefficients_are, coefficients_fractions}
 use Rattle.derivations.proofs.reasons.check_by_terms.Statement.{statement}
 use Rattle.derivations.proofs.reasons.check_by_terms.Tie as tie
 
@@ -17,11 +17,11 @@ returns c =
     λ tree r l formed f.
     let k = c.before.before.before.before in
     let a = k.before.before.before.before.args in
-    let e = ap₂ termsIn k.before.before.indices-of.ensures k.before.values_of.ensures in
-    let n = subst (λ (m : ℕ). Formed m (termsAt a.index.now a.values.now a.terms)) l.number formed in
-    c.check-dominates.ensures tree r l (coefficients-fractions _ k.coefficients-of.ensures e l.few n) f
-    ∙ ap (λ (g : ℕ → Fraction). checkDominates tree (constraintBy g a.sense a.right) r) (coefficients-are _ k.coefficients-of.ensures e l.few n)
+    let e = ap₂ terms_in k.before.before.indices-of.ensures k.before.values_of.ensures in
+    let n = subst (λ (m : ℕ). Formed m (terms_at a.index.now a.values.now a.terms)) l.number formed in
+    c.check-dominates.ensures tree r l (coefficients_fractions _ k.coefficients-of.ensures e l.few n) f
+    ∙ ap (λ (g : ℕ → Fraction). check_dominates tree (constraint_by g a.sense a.right) r) (coefficients_are _ k.coefficients-of.ensures e l.few n)
 
-pub check-by-terms-spec : {M : Type 1} → statement M
-check-by-terms-spec = tie.close (tie.spec (λ c. search rules) (λ c. search rules) (λ c. search rules) (λ c. search rules)
+pub check_by_terms_spec : {M : Type 1} → statement M
+check_by_terms_spec = tie.close (tie.spec (λ c. search rules) (λ c. search rules) (λ c. search rules) (λ c. search rules)
     returns)

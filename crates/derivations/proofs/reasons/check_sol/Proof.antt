@@ -4,28 +4,28 @@ use mathlib.Core.Bool.{Bool}
 use borrow.Author.Tests.{not-true, not-false}
 use borrow.Author.Rules.{rules}
 use Rattle.rules.specs.Result.{refused}
-use Rattle.rules.specs.Rows.{variables, valueIn, objectiveWith}
-use Rattle.rules.specs.Derivations.{checkDominates, checkSol}
+use Rattle.rules.specs.Rows.{variables, value_in, objective_with}
+use Rattle.rules.specs.Derivations.{check_dominates, check_sol}
 use Rattle.rules.specs.Sentence.Formed.{Formed}
-use Rattle.encoding.specs.EncodesLaws.{maximize-is}
-use Rattle.derivations.specs.Checks.{bestSays}
+use Rattle.encoding.specs.EncodesLaws.{maximize_is}
+use Rattle.derivations.specs.Checks.{best_says}
 use Rattle.derivations.proofs.reasons.check_sol.Statement.{statement}
 use Rattle.derivations.proofs.reasons.check_sol.Tie as tie
 
 returns : tie.Need-returns
 returns c =
     λ tree r rows e l f.
-    ap (refused 18) l.is.place_is ∙ sym (ap (λ (any : Bool). checkSol tree (bestSays any c.before.before.args.best) r) (not-true c.before.before.args.any c.if1.true))
+    ap (refused 18) l.is.place_is ∙ sym (ap (λ (any : Bool). check_sol tree (best_says any c.before.before.args.best) r) (not-true c.before.before.args.any c.if1.true))
 
 returns-2 : tie.Need-returns-2
-unfolding objectiveWith
+unfolding objective_with
 returns-2 c =
     λ tree r rows e l f.
     let a = c.before.before.before.before.args in
-    let s = c.before.sense-towards.ensures tree.objective.direction (maximize-is e) in
-    c.check-by-terms.ensures tree r l (subst (Formed (variables tree)) (sym e.objective-is) e.formed.objective-formed) f
-    ∙ (λ i. checkDominates tree (record { sense = s i; coefficient = valueIn (e.objective-is i); right = a.best }) r)
-    ∙ sym (ap (λ (any : Bool). checkSol tree (bestSays any a.best) r) (not-false a.any c.before.before.if1.false))
+    let s = c.before.sense-towards.ensures tree.objective.direction (maximize_is e) in
+    c.check-by-terms.ensures tree r l (subst (Formed (variables tree)) (sym e.objective_is) e.formed.objective_formed) f
+    ∙ (λ i. check_dominates tree (record { sense = s i; coefficient = value_in (e.objective_is i); right = a.best }) r)
+    ∙ sym (ap (λ (any : Bool). check_sol tree (best_says any a.best) r) (not-false a.any c.before.before.if1.false))
 
-pub check-sol-spec : {M : Type 1} → statement M
-check-sol-spec = tie.close (tie.spec returns (λ c. search rules) (λ c. search rules) returns-2)
+pub check_sol_spec : {M : Type 1} → statement M
+check_sol_spec = tie.close (tie.spec returns (λ c. search rules) (λ c. search rules) returns-2)

@@ -8,7 +8,7 @@ use lib.ListN.{get_or}
 use mathlib.Core.Path.{refl}
 use Prim.Native.Nat.{◌-◌}
 use lib.ListN.{length}
-use Rattle.encoding.proofs.Marks.{Marking, marking-start, marking-on, marking-past, marking-end}
+use Rattle.encoding.proofs.Marks.{Marking, marking_start, marking_on, marking_past, marking_end}
 use borrow.Author.Rules.{rules}
 use native.Mathlib.Omega.{arith}
 use Rattle.encoding.proofs.integers.marks_of.Statement.{statement}
@@ -21,7 +21,7 @@ abbrev decreases-loop : tie.decreases-loop
 decreases-loop variables marks₀ k₀ marks k = length variables - k
 
 loop-holds : tie.Need-loop-init invariant-loop decreases-loop
-loop-holds c = marking-start _
+loop-holds c = marking_start _
 
 cast-v : tie.Need-overflow-cast-v invariant-loop decreases-loop
 cast-v c = omega (arith, c.shared-slice-known.given c.before.before.loop.k)
@@ -31,13 +31,13 @@ loop-again c =
     let l = c.before.before.before in
     let listed = l.before.args.variables.now in
     ⊎_elim
-    (λ t. subst (λ (m : List Bool). Marking listed m (l.loop.k + 1)) (sym t.1) (marking-on listed l.loop.marks l.loop.k (get_or listed l.loop.k 0) c.before.before.loop-test.true refl l.loop.invariant t.0.taken))
-    (λ t. subst (λ (m : List Bool). Marking listed m (l.loop.k + 1)) (sym t.1) (marking-past listed l.loop.marks l.loop.k (get_or listed l.loop.k 0) c.before.before.loop-test.true refl l.loop.invariant t.0.left))
+    (λ t. subst (λ (m : List Bool). Marking listed m (l.loop.k + 1)) (sym t.1) (marking_on listed l.loop.marks l.loop.k (get_or listed l.loop.k 0) c.before.before.loop-test.true refl l.loop.invariant t.0.taken))
+    (λ t. subst (λ (m : List Bool). Marking listed m (l.loop.k + 1)) (sym t.1) (marking_past listed l.loop.marks l.loop.k (get_or listed l.loop.k 0) c.before.before.loop-test.true refl l.loop.invariant t.0.left))
     c.if1.branch
 
 returns : tie.Need-returns invariant-loop decreases-loop
-returns c = marking-end _ _ _ (omega arith) c.before.loop.invariant
+returns c = marking_end _ _ _ (omega arith) c.before.loop.invariant
 
-pub marks-of-spec : {M : Type 1} → statement M
-marks-of-spec = tie.close (tie.spec invariant-loop decreases-loop loop-holds (λ c. search rules) (λ c. search rules) cast-v
+pub marks_of_spec : {M : Type 1} → statement M
+marks_of_spec = tie.close (tie.spec invariant-loop decreases-loop loop-holds (λ c. search rules) (λ c. search rules) cast-v
     (λ c. search rules) (λ c. search rules) (λ c. search rules) loop-again returns)

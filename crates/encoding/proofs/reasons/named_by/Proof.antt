@@ -1,6 +1,6 @@
 use mathlib.Core.Path.{sym, ap, ◌∙◌}
 use mathlib.Core.Bool.{true, false}
-use Rattle.encoding.specs.Places.{indicesAt}
+use Rattle.encoding.specs.Places.{indices_at}
 -- `encoding::reasons::named_by` meets its contract: the four of `uns`, or those of the pairs.
 use Rattle.encoding.proofs.ReasonsLaws.{named-uns, named_other}
 use borrow.Author.Rules.{rules}
@@ -16,7 +16,7 @@ returns-2 c =
     let m = t.before.before in
     let s = m.before.before.before.before in
     c.indices-of.ensures
-    ∙ ap (indicesAt s.args.index.now) c.before.multipliers-of.ensures
+    ∙ ap (indices_at s.args.index.now) c.before.multipliers-of.ensures
     ∙ named_other m.before.reason-of.ensures m.Cell-at.ensures true t.before.if1.false (sym t.is-combined.ensures ∙ c.before.before.if2.true)
 
 returns-3 : tie.Need-returns-3
@@ -25,6 +25,6 @@ returns-3 c =
     let m = t.before.before in
     named_other m.before.reason-of.ensures m.Cell-at.ensures false t.before.if1.false (sym t.is-combined.ensures ∙ c.before.if2.false)
 
-pub named-by-spec : {M : Type 1} → statement M
-named-by-spec = tie.close (tie.spec (λ c. search rules) (λ c. search rules) (λ c. search rules) (λ c. search rules) returns
+pub named_by_spec : {M : Type 1} → statement M
+named_by_spec = tie.close (tie.spec (λ c. search rules) (λ c. search rules) (λ c. search rules) (λ c. search rules) returns
     (λ c. search rules) (λ c. search rules) (λ c. search rules) returns-2 (λ c. search rules) returns-3)

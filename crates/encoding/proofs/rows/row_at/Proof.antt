@@ -9,6 +9,6 @@ returns c =
     λ tree row k.
     row_is c.before.before.before.before.entry_at.ensures c.before.before.before.Cell-at.ensures c.before.before.sense-of.ensures c.before.value-at.ensures c.side-at.ensures k
 
-pub row-at-spec : {M : Type 1} → statement M
-row-at-spec = tie.close (tie.spec (λ c. search rules) (λ c. search rules) (λ c. search rules) (λ c. search rules)
+pub row_at_spec : {M : Type 1} → statement M
+row_at_spec = tie.close (tie.spec (λ c. search rules) (λ c. search rules) (λ c. search rules) (λ c. search rules)
     (λ c. search rules) returns)

@@ -10,6 +10,6 @@ returns c = side-objective _ _ _ c.before.Cell-at.ensures c.if1.true
 returns-2 : tie.Need-returns-2
 returns-2 c = side-own _ _ _ c.before.Cell-at.ensures c.if1.false
 
-pub side-at-spec : {M : Type 1} → statement M
-side-at-spec = tie.close (tie.spec (λ c. search rules) (λ c. search rules) returns (λ c. search rules) (λ c. search rules)
+pub side_at_spec : {M : Type 1} → statement M
+side_at_spec = tie.close (tie.spec (λ c. search rules) (λ c. search rules) returns (λ c. search rules) (λ c. search rules)
     (λ c. search rules) returns-2)

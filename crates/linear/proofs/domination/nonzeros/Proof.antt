@@ -4,7 +4,7 @@ use mathlib.Core.Logic.{⊎_elim}
 use Prim.Native.Nat.{◌-◌, ◌<◌, min}
 use native.Mathlib.Omega.{arith}
 use borrow.Author.Rules.{rules}
-use Rattle.linear.proofs.ComparingLaws.{Counted, counted-more, counted-over, counted-end}
+use Rattle.linear.proofs.ComparingLaws.{Counted, counted_more, counted_over, counted_end}
 use Rattle.linear.proofs.domination.nonzeros.Statement.{statement}
 use Rattle.linear.proofs.domination.nonzeros.Tie as tie
 
@@ -32,12 +32,12 @@ add-count c = omega (arith, c.before.before.before.loop.invariant.small, inside 
 loop-again : tie.Need-loop-preserved invariant-loop decreases-loop
 loop-again c =
     let l = c.before.before in
-    ⊎_elim (λ w. counted-more l.before.loop.invariant (inside l) c.before.if12.given w.0.taken w.1)
-    (λ w. counted-over l.before.loop.invariant (inside l) c.before.if12.given w.0.left w.1) c.if1.branch
+    ⊎_elim (λ w. counted_more l.before.loop.invariant (inside l) c.before.if12.given w.0.taken w.1)
+    (λ w. counted_over l.before.loop.invariant (inside l) c.before.if12.given w.0.left w.1) c.if1.branch
 
 returns : tie.Need-returns invariant-loop decreases-loop
-returns c = λ dens. counted-end c.before.loop.invariant (omega (arith, c.loop-test.false, c.before.before.in-arrays.ensures)) dens
+returns c = λ dens. counted_end c.before.loop.invariant (omega (arith, c.loop-test.false, c.before.before.in-arrays.ensures)) dens
 
-pub nonzeros-spec : {M : Type 1} → statement M
-nonzeros-spec = tie.close (tie.spec invariant-loop decreases-loop (λ c. search rules) loop-holds mul-if1 element-copy-out-if1 add-count
+pub nonzeros_spec : {M : Type 1} → statement M
+nonzeros_spec = tie.close (tie.spec invariant-loop decreases-loop (λ c. search rules) loop-holds mul-if1 element-copy-out-if1 add-count
     (λ c. search rules) (λ c. search rules) loop-again returns)

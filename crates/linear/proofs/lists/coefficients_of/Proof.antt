@@ -3,8 +3,8 @@ use mathlib.Core.Path.{◌∙◌, ap₂}
 use Prim.Native.Nat.{◌-◌}
 use native.Mathlib.Omega.{arith}
 use borrow.Author.Rules.{rules}
-use Rattle.integers.proofs.Casts.{back-of}
-use Rattle.linear.proofs.CoefficientsLaws.{aFraction, Spread, spread-start, spread-on, spread-over, spread_end}
+use Rattle.integers.proofs.Casts.{back_of}
+use Rattle.linear.proofs.CoefficientsLaws.{a_fraction, Spread, spread_start, spread_on, spread_over, spread_end}
 use Rattle.linear.proofs.lists.coefficients_of.Statement.{statement}
 use Rattle.linear.proofs.lists.coefficients_of.Tie as tie
 
@@ -15,7 +15,7 @@ abbrev decreases-loop : tie.decreases-loop
 decreases-loop variables parts nums₀ dens₀ left₀ nums dens left = left
 
 loop-holds : tie.Need-loop-init invariant-loop decreases-loop
-loop-holds c = spread-start _ _ _ c.pairs-in.ensures
+loop-holds c = spread_start _ _ _ c.pairs-in.ensures
 
 mul-v : tie.Need-overflow-mul-v invariant-loop decreases-loop
 mul-v c = omega (arith, c.before.loop.invariant.few)
@@ -33,16 +33,16 @@ loop-again : tie.Need-loop-preserved invariant-loop decreases-loop
 loop-again c =
     let w = c.before.before in
     let l = w.before.before.before in
-    spread-on _ _ l.before.loop.invariant l.loop-test.true _ _
-    (ap₂ aFraction (back-of _ c.before.struct_told.given.0.1) (back-of _ c.struct-told2.given.1.0.1) ∙ w.value-at.ensures) w.before.if1.true
+    spread_on _ _ l.before.loop.invariant l.loop-test.true _ _
+    (ap₂ a_fraction (back_of _ c.before.struct_told.given.0.1) (back_of _ c.struct-told2.given.1.0.1) ∙ w.value-at.ensures) w.before.if1.true
 
 loop-again-2 : tie.Need-loop-preserved-2 invariant-loop decreases-loop
-loop-again-2 c = spread-over _ _ c.before.before.before.loop.invariant c.before.before.loop-test.true c.if1.false
+loop-again-2 c = spread_over _ _ c.before.before.before.loop.invariant c.before.before.loop-test.true c.if1.false
 
 returns : tie.Need-returns invariant-loop decreases-loop
 returns c = spread_end _ _ c.before.loop.invariant c.loop-test.false
 
-pub coefficients-of-spec : {M : Type 1} → statement M
-coefficients-of-spec = tie.close (tie.spec invariant-loop decreases-loop (λ c. search rules) loop-holds (λ c. search rules) mul-v
+pub coefficients_of_spec : {M : Type 1} → statement M
+coefficients_of_spec = tie.close (tie.spec invariant-loop decreases-loop (λ c. search rules) loop-holds (λ c. search rules) mul-v
     shared-slice-read-v cast-v value-at-requires (λ c. search rules) (λ c. search rules) (λ c. search rules) (λ c. search rules)
     (λ c. search rules) loop-again (λ c. search rules) loop-again-2 returns)

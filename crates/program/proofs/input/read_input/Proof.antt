@@ -12,7 +12,7 @@ use mir.Syntax.{w64}
 use mir.Val.{SFits}
 use mir.Facts.{to_z-of_z}
 use Rattle.program.specs.Input.{Stopped}
-use Rattle.program.proofs.Inputs.{stopped, more-came, full}
+use Rattle.program.proofs.Inputs.{stopped, more_came, full}
 use Rattle.program.proofs.input.read_input.Statement.{statement}
 use Rattle.program.proofs.input.read_input.Tie as tie
 
@@ -42,7 +42,7 @@ grown : (c : tie.Else2 invariant-loop decreases-loop)
 grown c =
     let l = c.before.before.before.before.before.before.before.before.before.loop in
     let r = c.before.before.before.before.before.read_some in
-    more-came (length l.text) l.input.came r.result.came r.result.last (rw (to_z-of_z (told c.before)) at c.if2.false) r.ensures.0
+    more_came (length l.text) l.input.came r.result.came r.result.last (rw (to_z-of_z (told c.before)) at c.if2.false) r.ensures.0
 
 loop-less : tie.Need-loop-smaller invariant-loop decreases-loop
 loop-less c = omega (arith, (grown c).0, (grown c).1, c.before.before.before.before.before.read_some.auto.0)
@@ -58,6 +58,6 @@ returns-2 c =
     let l = c.before.before.loop in
     full (length c.before.before.before.before.args.text.now) l.input.came l.input.last (omega (arith, c.if1.false, l.invariant.0, l.invariant.1))
 
-pub read-input-spec : {M : Type 1} → statement M
-read-input-spec = tie.close (tie.spec invariant-loop decreases-loop (λ c. search rules) (λ c. search rules) (λ c. search rules)
+pub read_input_spec : {M : Type 1} → statement M
+read_input_spec = tie.close (tie.spec invariant-loop decreases-loop (λ c. search rules) (λ c. search rules) (λ c. search rules)
     returns loop-less loop-again (λ c. search rules) returns-2)

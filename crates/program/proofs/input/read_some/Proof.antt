@@ -26,6 +26,6 @@ returns c =
       take_put s.args.came (length text - s.args.came) text r.new.1.0 s.requires,
     )
 
-pub read-some-spec : {M : Type 1} → statement M
-read-some-spec = tie.close (tie.spec (λ c. search rules) (λ c. search rules) (λ c. search rules) (λ c. search rules)
+pub read_some_spec : {M : Type 1} → statement M
+read_some_spec = tie.close (tie.spec (λ c. search rules) (λ c. search rules) (λ c. search rules) (λ c. search rules)
     (λ c. search rules) (λ c. search rules) (λ c. search rules) (λ c. search rules) (λ c. search rules) (λ c. search rules) returns)

@@ -7,9 +7,9 @@ use borrow.Author.Rules.{rules}
 use lib.IntN.{pos}
 use lib.ListN.{length, take, length-replicate}
 use lib.Seq.{take_all}
-use Rattle.tables.specs.Limits.{mostBytes}
-use Rattle.program.specs.Line.{printed, long-refused}
-use Rattle.program.proofs.Lines.{counted, line_of, at-most-all}
+use Rattle.tables.specs.Limits.{most_bytes}
+use Rattle.program.specs.Line.{printed, long_refused}
+use Rattle.program.proofs.Lines.{counted, line_of, at_most_all}
 use Rattle.program.proofs.line.answer.Statement.{statement}
 use Rattle.program.proofs.line.answer.Tie as tie
 
@@ -25,15 +25,15 @@ returns c =
     let w = c.before.before.before.before.before.before.before.before.before.before.within in
     let s = c.before.before.before.before.before.before.before.before.before.before.before.before in
     let text = s.args.text.now in
-    let long : mostBytes < length text = search rules in
+    let long : most_bytes < length text = search rules in
     let cells = line_of (take w.result text) (length-replicate {A = ℕ} 16384 0) (length-replicate 16384 (pos 0)) (length-replicate {A = ℕ} 4352 0) in
-    let made = cells p.ensures.1 v.ensures.answer ∙ ap printed (at-most-all text s.args.came w.ensures) in
+    let made = cells p.ensures.1 v.ensures.answer ∙ ap printed (at_most_all text s.args.came w.ensures) in
     record {
       counted = p.ensures.0;
       line_made = made;
-      full-refused = λ full. made ∙ ap printed (take_all s.args.came text full) ∙ long-refused text long;
+      full_refused = λ full. made ∙ ap printed (take_all s.args.came text full) ∙ long_refused text long;
     }
 
-pub answer-spec : {M : Type 1} → statement M
-answer-spec = tie.close (tie.spec (λ c. search rules) slice-aggregate-verify (λ c. search rules) (λ c. search rules)
+pub answer_spec : {M : Type 1} → statement M
+answer_spec = tie.close (tie.spec (λ c. search rules) slice-aggregate-verify (λ c. search rules) (λ c. search rules)
     (λ c. search rules) (λ c. search rules) (λ c. search rules) returns)

@@ -5,7 +5,7 @@ use Prim.Native.Nat.{ℕ}
 use borrow.Author.Rules.{rules}
 use native.Mathlib.Omega.{arith}
 use Rattle.checker.specs.declared.Verification.{Verification}
-use Rattle.checker.specs.Promise.{refuses, verificationSays}
+use Rattle.checker.specs.Promise.{refuses, verification_says}
 use Rattle.program.specs.Line.{line_for}
 use Rattle.program.proofs.Lines.{counted}
 use Rattle.program.proofs.line.put_answer.Statement.{statement}
@@ -17,7 +17,7 @@ returns c =
     let p = c.before.before.put in
     let s = c.before.before.before.before.before.before.before.before in (
       counted p.result p.new.0 (omega (arith, p.ensures.0, p.auto.0, s.requires)),
-      p.ensures.1 ∙ ap (λ (v : Verification). line_for (verificationSays v)) (sym c.before.before.before.before.before.enum_told.given.1),
+      p.ensures.1 ∙ ap (λ (v : Verification). line_for (verification_says v)) (sym c.before.before.before.before.before.enum_told.given.1),
     )
 
 returns-2 : tie.Need-returns-2
@@ -29,9 +29,9 @@ returns-2 c =
       counted p.result p.new.0 (omega (arith, p.ensures.0, p.auto.0, s.requires)),
       p.ensures.1
           ∙ ap (λ (k : ℕ). line_for (refuses k a.given.0.1.0)) n.ensures
-          ∙ ap (λ (v : Verification). line_for (verificationSays v)) (sym a.given.1),
+          ∙ ap (λ (v : Verification). line_for (verification_says v)) (sym a.given.1),
     )
 
-pub put-answer-spec : {M : Type 1} → statement M
-put-answer-spec = tie.close (tie.spec (λ c. search rules) (λ c. search rules) (λ c. search rules) (λ c. search rules)
+pub put_answer_spec : {M : Type 1} → statement M
+put_answer_spec = tie.close (tie.spec (λ c. search rules) (λ c. search rules) (λ c. search rules) (λ c. search rules)
     (λ c. search rules) (λ c. search rules) (λ c. search rules) returns (λ c. search rules) returns-2)

@@ -5,7 +5,7 @@ use borrow.Author.Rules.{rules}
 use Rattle.reader.proofs.documents.read_document.Statement.{statement}
 use Rattle.reader.proofs.documents.read_document.Tie as tie
 use Rattle.symbol_reader.proofs.FollowsLaws.{follows_by}
-use Rattle.reader.proofs.DocumentLaws.{document-follows}
+use Rattle.reader.proofs.DocumentLaws.{document_follows}
 
 same_length : tie.Need-same-length
 same_length c =
@@ -32,13 +32,13 @@ returns c =
     let few = n.count_of.ensures in
     λ room.
     (follows_by (sym s.start.ensures)
-    (document-follows s.start.ensures few m.count-of2.ensures (w.read-version.ensures _ _ _) (v.read-variables.ensures _ _) (i.read-integers.ensures _ _ (omega (arith, few))) (o.read-objective.ensures _ (omega (arith, few)))
+    (document_follows s.start.ensures few m.count-of2.ensures (w.read-version.ensures _ _ _) (v.read-variables.ensures _ _) (i.read-integers.ensures _ _ (omega (arith, few))) (o.read-objective.ensures _ (omega (arith, few)))
     (k.read-constraints.ensures (omega (arith, few)) refl) (λ g same. p.read-proof.ensures g (omega (arith, few)) same)
     c.before.before.number_of_lem.ensures c.before.Cells-of.ensures c.values_of.ensures)
     ).is room tt
 
-pub read-document-spec : {M : Type 1} → statement M
-read-document-spec = tie.close (tie.spec (λ c. search rules) (λ c. search rules) (λ c. search rules) (λ c. search rules)
+pub read_document_spec : {M : Type 1} → statement M
+read_document_spec = tie.close (tie.spec (λ c. search rules) (λ c. search rules) (λ c. search rules) (λ c. search rules)
     (λ c. search rules) (λ c. search rules) (λ c. search rules) (λ c. search rules) (λ c. search rules) (λ c. search rules)
     (λ c. search rules) (λ c. search rules) (λ c. search rules) (λ c. search rules) same_length (λ c. search rules)
     (λ c. search rules) returns)

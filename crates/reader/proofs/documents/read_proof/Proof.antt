@@ -5,7 +5,7 @@ use native.Mathlib.Omega.{arith}
 use borrow.Author.Rules.{rules}
 use Rattle.reader.proofs.documents.read_proof.Statement.{statement}
 use Rattle.reader.proofs.documents.read_proof.Tie as tie
-use Rattle.reader.proofs.ProofLaws.{proof-follows}
+use Rattle.reader.proofs.ProofLaws.{proof_follows}
 
 add_total : tie.Need-overflow-add-total
 add_total c =
@@ -21,9 +21,9 @@ returns c =
     let l = z.before.before.before.before.before.before.before in
     let s = l.before.before.before.before.before.before.before in
     λ k few same.
-    proof-follows s.args.n s.args.m k same s.requires _ d.read-derivations.result (l.read-relation.ensures _) (z.read-solutions.ensures few) (d.read-derivations.ensures few s.requires) c.before.number_of_lem.ensures c.number-of2.ensures refl (ap (λ (i : ℕ). s.args.m + i) c.before.before.count_of.ensures)
+    proof_follows s.args.n s.args.m k same s.requires _ d.read-derivations.result (l.read-relation.ensures _) (z.read-solutions.ensures few) (d.read-derivations.ensures few s.requires) c.before.number_of_lem.ensures c.number-of2.ensures refl (ap (λ (i : ℕ). s.args.m + i) c.before.before.count_of.ensures)
 
-pub read-proof-spec : {M : Type 1} → statement M
-read-proof-spec = tie.close (tie.spec (λ c. search rules) (λ c. search rules) (λ c. search rules) (λ c. search rules) add_total
+pub read_proof_spec : {M : Type 1} → statement M
+read_proof_spec = tie.close (tie.spec (λ c. search rules) (λ c. search rules) (λ c. search rules) (λ c. search rules) add_total
     (λ c. search rules) (λ c. search rules) (λ c. search rules) (λ c. search rules) (λ c. search rules) (λ c. search rules)
     returns)

@@ -3,11 +3,11 @@ use native.Mathlib.Omega.{arith}
 use borrow.Author.Rules.{rules}
 use Rattle.row_reader.proofs.derivations.read_detail.Statement.{statement}
 use Rattle.row_reader.proofs.derivations.read_detail.Tie as tie
-use Rattle.symbol_reader.proofs.FollowsLaws.{follows-stop}
-use Rattle.row_reader.proofs.Reasons.{detail-none, detail-listed, detail-unsplit}
+use Rattle.symbol_reader.proofs.FollowsLaws.{follows_stop}
+use Rattle.row_reader.proofs.Reasons.{detail_none, detail-listed, detail-unsplit}
 
 returns : tie.Need-returns
-returns c = λ w rs small t. follows-stop c.enum_told.given.1
+returns c = λ w rs small t. follows_stop c.enum_told.given.1
 
 returns-2 : tie.Need-returns-2
 returns-2 c =
@@ -36,9 +36,9 @@ returns-5 : tie.Need-returns-5
 returns-5 c =
     let k = c.before.before in
     let s = k.before.before.before.before.before.before.args in
-    λ w rs small t. detail-none s.own k.before.before.s.given.1 w t k.if1.false c.before.if2.false c.if3.false
+    λ w rs small t. detail_none s.own k.before.before.s.given.1 w t k.if1.false c.before.if2.false c.if3.false
 
-pub read-detail-spec : {M : Type 1} → statement M
-read-detail-spec = tie.close (tie.spec (λ c. search rules) (λ c. search rules) returns (λ c. search rules) (λ c. search rules)
+pub read_detail_spec : {M : Type 1} → statement M
+read_detail_spec = tie.close (tie.spec (λ c. search rules) (λ c. search rules) returns (λ c. search rules) (λ c. search rules)
     (λ c. search rules) returns-2 (λ c. search rules) (λ c. search rules) (λ c. search rules) returns-3 (λ c. search rules)
     (λ c. search rules) returns-4 returns-5)

@@ -12,5 +12,5 @@ returns c = rw (eq-eqb _ _ c.if1.true)
 returns-2 : tie.Need-returns-2
 returns-2 c = rw (ne_eqb _ _ c.if1.false) (sym (add-zero _))
 
-pub with-reason-spec : {M : Type 1} → statement M
-with-reason-spec = tie.close (tie.spec (λ c. search rules) returns returns-2)
+pub with_reason_spec : {M : Type 1} → statement M
+with_reason_spec = tie.close (tie.spec (λ c. search rules) returns returns-2)

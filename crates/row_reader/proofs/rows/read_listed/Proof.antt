@@ -9,33 +9,33 @@ use Rattle.row_reader.proofs.rows.read_listed.Statement.{statement}
 use Rattle.row_reader.proofs.rows.read_listed.Tie as tie
 use Rattle.text.specs.Bytes.{Bytes}
 use Rattle.grammar.specs.Format.{Or, instead, given, items}
-use Rattle.grammar.specs.Certificate.{pair, listedTerms}
+use Rattle.grammar.specs.Certificate.{pair, listed_terms}
 use Rattle.symbol_reader.specs.Steps.{any}
-use Rattle.symbol_reader.specs.Follows.{Always, Follows, cellOr, Tells}
+use Rattle.symbol_reader.specs.Follows.{Always, Follows, cell_or, Tells}
 use Rattle.symbol_reader.specs.declared.Cursor.{Cursor}
 use Rattle.symbol_reader.specs.declared.Step.{Step}
 use Rattle.symbol_reader.specs.declared.Step.TheVariants.{Next}
-use Rattle.symbol_reader.proofs.FollowsLaws.{follows_by, follows-stop, follows_nothing, follows-at}
+use Rattle.symbol_reader.proofs.FollowsLaws.{follows_by, follows_stop, follows_nothing, follows_at}
 
 module _ (n : ℕ) (small : n ≤ 256) {text : Bytes} {s : Step} {ix : List ℕ} {vs : List ℤ} {rs : List ℕ} {i : ℕ} {c : Cursor} (e : s ≡ Next i c) where
   -- the word was read
-  none : i ≡ 65535 → (k : Or ℕ) → Tells (cellOr 65535 (suc n)) k s → Follows Always (λ _. listedTerms n k) any text s ix vs rs ix vs rs (Next i c)
-  none h k t = go k (subst (Tells (cellOr 65535 (suc n)) k) e t)
+  none : i ≡ 65535 → (k : Or ℕ) → Tells (cell_or 65535 (suc n)) k s → Follows Always (λ _. listed_terms n k) any text s ix vs rs ix vs rs (Next i c)
+  none h k t = go k (subst (Tells (cell_or 65535 (suc n)) k) e t)
     where
-      go : (k : Or ℕ) → cellOr 65535 (suc n) k i → Follows Always (λ _. listedTerms n k) any text s ix vs rs ix vs rs (Next i c)
+      go : (k : Or ℕ) → cell_or 65535 (suc n) k i → Follows Always (λ _. listed_terms n k) any text s ix vs rs ix vs rs (Next i c)
       go instead t = follows_by e follows_nothing
       go (given a) t = absurd (omega (arith, small, h, t.1))
 
   -- a count was read
-  some : {ix' : List ℕ} {vs' : List ℤ} {rs' : List ℕ} {r : Step} → (i ≡ 65535 → ⊥) → Follows Always (λ k. items k (pair n)) any text (Next i c) ix vs rs ix' vs' rs' r → (k : Or ℕ) → Tells (cellOr 65535 (suc n)) k s → Follows Always (λ _. listedTerms n k) any text s ix vs rs ix' vs' rs' r
-  some {ix'} {vs'} {rs'} {r} h f k t = go k (subst (Tells (cellOr 65535 (suc n)) k) e t)
+  some : {ix' : List ℕ} {vs' : List ℤ} {rs' : List ℕ} {r : Step} → (i ≡ 65535 → ⊥) → Follows Always (λ k. items k (pair n)) any text (Next i c) ix vs rs ix' vs' rs' r → (k : Or ℕ) → Tells (cell_or 65535 (suc n)) k s → Follows Always (λ _. listed_terms n k) any text s ix vs rs ix' vs' rs' r
+  some {ix'} {vs'} {rs'} {r} h f k t = go k (subst (Tells (cell_or 65535 (suc n)) k) e t)
     where
-      go : (k : Or ℕ) → cellOr 65535 (suc n) k i → Follows Always (λ _. listedTerms n k) any text s ix vs rs ix' vs' rs' r
+      go : (k : Or ℕ) → cell_or 65535 (suc n) k i → Follows Always (λ _. listed_terms n k) any text s ix vs rs ix' vs' rs' r
       go instead t = absurd (h (sym t))
-      go (given a) t = follows_by e (subst (λ (k : ℕ). Follows Always (λ _. items k (pair n)) any text (Next i c) ix vs rs ix' vs' rs' r) (sym t.0) (follows-at f))
+      go (given a) t = follows_by e (subst (λ (k : ℕ). Follows Always (λ _. items k (pair n)) any text (Next i c) ix vs rs ix' vs' rs' r) (sym t.0) (follows_at f))
 
 returns : tie.Need-returns
-returns c = λ k rs small t. follows-stop c.enum_told.given.1
+returns c = λ k rs small t. follows_stop c.enum_told.given.1
 
 returns-2 : tie.Need-returns-2
 returns-2 c =
@@ -49,6 +49,6 @@ returns-3 c =
     let s = i.before.before.before.before.before.before.args in
     λ k rs small t. some s.n small i.before.before.s.given.1 i.if1.false (p.read_pairs.ensures rs (omega (arith, small))) k t
 
-pub read-listed-spec : {M : Type 1} → statement M
-read-listed-spec = tie.close (tie.spec (λ c. search rules) (λ c. search rules) returns returns-2 (λ c. search rules)
+pub read_listed_spec : {M : Type 1} → statement M
+read_listed_spec = tie.close (tie.spec (λ c. search rules) (λ c. search rules) returns returns-2 (λ c. search rules)
     (λ c. search rules) (λ c. search rules) returns-3)

@@ -3,7 +3,7 @@ use native.Mathlib.Omega.{arith}
 use borrow.Author.Rules.{rules}
 use Rattle.section_reader.proofs.problem.read_constraints.Statement.{statement}
 use Rattle.section_reader.proofs.problem.read_constraints.Tie as tie
-use Rattle.section_reader.proofs.ConstraintLaws.{constraints-follows}
+use Rattle.section_reader.proofs.ConstraintLaws.{constraints_follows}
 
 returns : tie.Need-returns
 returns c =
@@ -15,9 +15,9 @@ returns c =
     let s = w.before.before.before.before.before.before.args in
     let e = m.count_of.ensures in
     λ few marks.
-    constraints-follows s.n (w.read_word.ensures _ _ _) (k.read_count.ensures.0 _ _ (omega arith)) (b.read-count2.ensures.0 _ _ (omega (arith, e))) (o.read-rows.ensures few (omega (arith, e)) marks) e c.carry.ensures
+    constraints_follows s.n (w.read_word.ensures _ _ _) (k.read_count.ensures.0 _ _ (omega arith)) (b.read-count2.ensures.0 _ _ (omega (arith, e))) (o.read-rows.ensures few (omega (arith, e)) marks) e c.carry.ensures
 
-pub read-constraints-spec : {M : Type 1} → statement M
-read-constraints-spec = tie.close (tie.spec (λ c. search rules) (λ c. search rules) (λ c. search rules) (λ c. search rules)
+pub read_constraints_spec : {M : Type 1} → statement M
+read_constraints_spec = tie.close (tie.spec (λ c. search rules) (λ c. search rules) (λ c. search rules) (λ c. search rules)
     (λ c. search rules) (λ c. search rules) (λ c. search rules) (λ c. search rules) (λ c. search rules) (λ c. search rules)
     (λ c. search rules) returns)

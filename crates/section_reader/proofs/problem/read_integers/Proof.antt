@@ -4,8 +4,8 @@ use native.Mathlib.Omega.{arith}
 use borrow.Author.Rules.{rules}
 use Rattle.section_reader.proofs.problem.read_integers.Statement.{statement}
 use Rattle.section_reader.proofs.problem.read_integers.Tie as tie
-use Rattle.symbol_reader.proofs.FollowsLaws.{leads-always}
-use Rattle.section_reader.proofs.SectionLaws.{section-follows, counted-follows}
+use Rattle.symbol_reader.proofs.FollowsLaws.{leads_always}
+use Rattle.section_reader.proofs.SectionLaws.{section_follows, counted_follows}
 
 returns : tie.Need-returns
 returns c =
@@ -13,8 +13,8 @@ returns c =
     let k = i.before.before.before.before in
     let w = k.before.before in
     λ vs rs few.
-    section-follows (w.read_word.ensures _ vs rs) (counted-follows (λ x. refl) leads-always (k.read_count.ensures.0 vs rs (omega (arith, few))) (i.read-indices.ensures vs rs few) c.carry.ensures)
+    section_follows (w.read_word.ensures _ vs rs) (counted_follows (λ x. refl) leads_always (k.read_count.ensures.0 vs rs (omega (arith, few))) (i.read-indices.ensures vs rs few) c.carry.ensures)
 
-pub read-integers-spec : {M : Type 1} → statement M
-read-integers-spec = tie.close (tie.spec (λ c. search rules) (λ c. search rules) (λ c. search rules) (λ c. search rules)
+pub read_integers_spec : {M : Type 1} → statement M
+read_integers_spec = tie.close (tie.spec (λ c. search rules) (λ c. search rules) (λ c. search rules) (λ c. search rules)
     (λ c. search rules) (λ c. search rules) returns)

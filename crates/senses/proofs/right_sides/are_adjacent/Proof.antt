@@ -21,5 +21,5 @@ returns-2 c =
 returns-3 : tie.Need-returns-3
 returns-3 c = λ f g. and_no _ (and_no _ c.before.same-sense.ensures c.if1.false) refl
 
-pub are-adjacent-spec : {M : Type 1} → statement M
-are-adjacent-spec = tie.close (tie.spec (λ c. search rules) (λ c. search rules) (λ c. search rules) returns returns-2 returns-3)
+pub are_adjacent_spec : {M : Type 1} → statement M
+are_adjacent_spec = tie.close (tie.spec (λ c. search rules) (λ c. search rules) (λ c. search rules) returns returns-2 returns-3)

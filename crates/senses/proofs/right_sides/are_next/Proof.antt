@@ -3,7 +3,7 @@ use mathlib.Core.Path.{◌∙◌}
 use native.Mathlib.Omega.{arith}
 use borrow.Author.Rules.{rules}
 use Rattle.senses.proofs.Truth.{and_yes, and_no}
-use Rattle.senses.proofs.Numbers.{cast_fits, sum_fits, is-next}
+use Rattle.senses.proofs.Numbers.{cast_fits, sum_fits, is_next}
 use Rattle.senses.proofs.right_sides.are_next.Statement.{statement}
 use Rattle.senses.proofs.right_sides.are_next.Tie as tie
 
@@ -20,7 +20,7 @@ returns : tie.Need-returns
 returns c =
     let t = c.before.before.before in
     let a = t.before.before.before.args in
-    is-next a.a.num a.b.num c.before.struct_told.given.0.1 c.struct-told2.given.0.1
+    is_next a.a.num a.b.num c.before.struct_told.given.0.1 c.struct-told2.given.0.1
     ∙ and_yes _ t.is-whole2.ensures c.before.before.if2.true
     ∙ and_yes _ t.before.before.is_whole.ensures t.before.if1.true
 
@@ -32,6 +32,6 @@ returns-2 c =
 returns-3 : tie.Need-returns-3
 returns-3 c = and_no _ c.before.is_whole.ensures c.if1.false
 
-pub are-next-spec : {M : Type 1} → statement M
-are-next-spec = tie.close (tie.spec (λ c. search rules) (λ c. search rules) cast-result cast-result-2 add-result returns
+pub are_next_spec : {M : Type 1} → statement M
+are_next_spec = tie.close (tie.spec (λ c. search rules) (λ c. search rules) cast-result cast-result-2 add-result returns
     returns-2 returns-3)

@@ -22,6 +22,6 @@ returns-2 c = rw c.enum-told2.given.1 (negated c.before.before.before.args.facto
 returns-3 : tie.Need-returns-3
 returns-3 c = rw c.enum-told3.given.1 (copied c.before.before.before.args.factor.num c.before.before.struct_told.given.0.1 ∙ sym (*ℤ-pos-one c.before.before.before.args.factor.num))
 
-pub signed-multiplier-spec : {M : Type 1} → statement M
-signed-multiplier-spec = tie.close (tie.spec cast-n (λ c. search rules) (λ c. search rules) sub-result (λ c. search rules)
+pub signed_multiplier_spec : {M : Type 1} → statement M
+signed_multiplier_spec = tie.close (tie.spec cast-n (λ c. search rules) (λ c. search rules) sub-result (λ c. search rules)
     returns returns-2 returns-3)

@@ -16,5 +16,5 @@ returns c =
     (same_numbers a.den b.den c.before.before.struct-told3.given.1.0.1 c.struct-told4.given.1.0.1) in
     (parts, λ v w. parts ∙ parts_same a b v w)
 
-pub is-same-spec : {M : Type 1} → statement M
-is-same-spec = tie.close (tie.spec returns)
+pub is_same_spec : {M : Type 1} → statement M
+is_same_spec = tie.close (tie.spec returns)

@@ -7,5 +7,5 @@ use Rattle.senses.proofs.values.is_whole.Tie as tie
 returns : tie.Need-returns
 returns c = is_number c.before.before.args.f.den 1 c.struct_told.given.1.0.1 (omega arith)
 
-pub is-whole-spec : {M : Type 1} → statement M
-is-whole-spec = tie.close (tie.spec returns)
+pub is_whole_spec : {M : Type 1} → statement M
+is_whole_spec = tie.close (tie.spec returns)

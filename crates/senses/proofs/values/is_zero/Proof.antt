@@ -7,5 +7,5 @@ use Rattle.senses.proofs.values.is_zero.Tie as tie
 returns : tie.Need-returns
 returns c = is_number c.before.before.args.f.num 0 c.struct_told.given.0.1 (omega arith)
 
-pub is-zero-spec : {M : Type 1} → statement M
-is-zero-spec = tie.close (tie.spec returns)
+pub is_zero_spec : {M : Type 1} → statement M
+is_zero_spec = tie.close (tie.spec returns)

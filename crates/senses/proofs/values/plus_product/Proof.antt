@@ -4,8 +4,8 @@ use Prim.Native.Nat.{ℕ}
 use borrow.Author.Rules.{rules}
 use Rattle.arithmetic.specs.declared.Fraction.{Fraction}
 use Rattle.arithmetic.specs.Outcome.{Outcome, gives, refuses}
-use Rattle.arithmetic.specs.Fraction.{productOf, sum_of, after}
-use Rattle.arithmetic.specs.Meaning.{product-then-sum}
+use Rattle.arithmetic.specs.Fraction.{product_of, sum_of, after}
+use Rattle.arithmetic.specs.Meaning.{product_then_sum}
 use Rattle.rules.specs.Result.{bind}
 use Rattle.rules.specs.Values.{within12, sum_at}
 use Rattle.senses.proofs.values.plus_product.Statement.{statement}
@@ -19,8 +19,8 @@ returns : tie.Need-returns
 returns c =
     λ u v w place.
     let s = c.before in
-    ap (within12 place) (c.add-product.ensures (search rules) (search rules) (search rules) ∙ product-then-sum s.args.sum s.args.a s.args.b (u, v, w))
-    ∙ in_two place s.args.sum (productOf s.args.a s.args.b)
+    ap (within12 place) (c.add-product.ensures (search rules) (search rules) (search rules) ∙ product_then_sum s.args.sum s.args.a s.args.b (u, v, w))
+    ∙ in_two place s.args.sum (product_of s.args.a s.args.b)
 
-pub plus-product-spec : {M : Type 1} → statement M
-plus-product-spec = tie.close (tie.spec (λ c. search rules) returns)
+pub plus_product_spec : {M : Type 1} → statement M
+plus_product_spec = tie.close (tie.spec (λ c. search rules) returns)

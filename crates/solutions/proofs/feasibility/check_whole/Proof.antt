@@ -7,9 +7,9 @@ use borrow.Author.Tests.{not-true, not-false}
 use Rattle.arithmetic.specs.declared.Fraction.{Fraction}
 use Rattle.grammar.specs.Tree.{Solution}
 use Rattle.rules.specs.Result.{refused, ◌andThen◌, require, each}
-use Rattle.rules.specs.Values.{isWhole}
+use Rattle.rules.specs.Values.{is_whole}
 use Rattle.solutions.specs.Points.{IsPoint, whole_at}
-use Rattle.solutions.proofs.Lists.{Checking, checking-is, checking-end}
+use Rattle.solutions.proofs.Lists.{Checking, checking_is, checking_end}
 use borrow.Author.Rules.{rules}
 use native.Mathlib.Omega.{arith}
 use Rattle.solutions.proofs.feasibility.check_whole.Statement.{statement}
@@ -30,9 +30,9 @@ tested : (c : tie.After-is-whole invariant-loop decreases-loop) {test : Bool} �
 tested c t s p at =
     let l = c.before.before.before in
     let v = get_or l.before.before.before.args.integers.now l.before.loop.k 0 in
-    checking-is (whole_at s) _ 0 l.loop-test.true (l.before.loop.invariant s p at)
+    checking_is (whole_at s) _ 0 l.loop-test.true (l.before.loop.invariant s p at)
     (ap (λ (b : Bool). require b 9 s.name.place)
-    (ap isWhole (sym (c.before.coefficient-at.ensures ∙ ap (λ (f : ℕ → Fraction). f v) p.values-are)) ∙ sym c.is_whole.ensures ∙ t))
+    (ap is_whole (sym (c.before.coefficient-at.ensures ∙ ap (λ (f : ℕ → Fraction). f v) p.values_are)) ∙ sym c.is_whole.ensures ∙ t))
 
 loop-holds : tie.Need-loop-init invariant-loop decreases-loop
 loop-holds c = λ s p at. refl
@@ -47,8 +47,8 @@ loop-again : tie.Need-loop-preserved invariant-loop decreases-loop
 loop-again c = tested c.before (not-false _ c.if1.false)
 
 returns-2 : tie.Need-returns-2 invariant-loop decreases-loop
-returns-2 c = λ s p at. checking-end (whole_at s) _ c.loop-test.false (c.before.loop.invariant s p at)
+returns-2 c = λ s p at. checking_end (whole_at s) _ c.loop-test.false (c.before.loop.invariant s p at)
 
-pub check-whole-spec : {M : Type 1} → statement M
-check-whole-spec = tie.close (tie.spec invariant-loop decreases-loop loop-holds (λ c. search rules) (λ c. search rules) cast-v
+pub check_whole_spec : {M : Type 1} → statement M
+check_whole_spec = tie.close (tie.spec invariant-loop decreases-loop loop-holds (λ c. search rules) (λ c. search rules) cast-v
     (λ c. search rules) (λ c. search rules) returns (λ c. search rules) (λ c. search rules) loop-again returns-2)

@@ -4,10 +4,10 @@ use borrow.Author.Rules.{rules}
 use lib.ListN.{length-set}
 use Rattle.symbol_reader.proofs.marks.mark.Statement.{statement}
 use Rattle.symbol_reader.proofs.marks.mark.Tie as tie
-use Rattle.symbol_reader.proofs.MarksLaws.{unmarked-more, marked_more}
+use Rattle.symbol_reader.proofs.MarksLaws.{unmarked_more, marked_more}
 
 returns : tie.Need-returns
-returns c = (unmarked-more c.before.before.args.words.now c.before.before.args.n c.if1.true, refl)
+returns c = (unmarked_more c.before.before.args.words.now c.before.before.args.n c.if1.true, refl)
 
 returns-2 : tie.Need-returns-2
 returns-2 c =

@@ -13,6 +13,6 @@ returns-2 c =
     let m = c.before.before in
     (given_by m.before.before.before.s.given.1 m.mark.ensures.0, m.mark.ensures.1)
 
-pub mark-answer-spec : {M : Type 1} → statement M
-mark-answer-spec = tie.close (tie.spec (λ c. search rules) (λ c. search rules) returns (λ c. search rules) (λ c. search rules)
+pub mark_answer_spec : {M : Type 1} → statement M
+mark_answer_spec = tie.close (tie.spec (λ c. search rules) (λ c. search rules) returns (λ c. search rules) (λ c. search rules)
     returns-2)

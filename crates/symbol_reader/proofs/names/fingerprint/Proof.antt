@@ -7,7 +7,7 @@ use native.Mathlib.Nat.{mod-lt}
 use lib.ListN.{length}
 use lib.Seq.{slice, take-length}
 use Rattle.text.specs.Bytes.{Bytes}
-use Rattle.symbol_reader.specs.Leaves.{fingerprintAfter, fingerprintOf}
+use Rattle.symbol_reader.specs.Leaves.{fingerprint_after, fingerprint_of}
 use Rattle.symbol_reader.proofs.Turns.{Left, all_done, goes_on}
 use borrow.Author.Rules.{rules}
 use native.Mathlib.Omega.{arith}
@@ -15,12 +15,12 @@ use Rattle.symbol_reader.proofs.names.fingerprint.Statement.{statement}
 use Rattle.symbol_reader.proofs.names.fingerprint.Tie as tie
 
 -- all bytes are left
-whole : (name : Bytes) → fingerprintAfter 0 (slice 0 (length name) name) ≡ fingerprintOf name
-unfolding fingerprintOf
-whole name = ap (fingerprintAfter 0) (take-length name)
+whole : (name : Bytes) → fingerprint_after 0 (slice 0 (length name) name) ≡ fingerprint_of name
+unfolding fingerprint_of
+whole name = ap (fingerprint_after 0) (take-length name)
 
 abbrev invariant-loop : tie.invariant-loop
-invariant-loop name n₀ i₀ n i = Left (fingerprintAfter n) name i (length name) (fingerprintOf name) × (n < 65536)
+invariant-loop name n₀ i₀ n i = Left (fingerprint_after n) name i (length name) (fingerprint_of name) × (n < 65536)
 
 abbrev decreases-loop : tie.decreases-loop
 decreases-loop name n₀ i₀ n i = length name - i
@@ -42,6 +42,6 @@ loop-again c =
 returns : tie.Need-returns invariant-loop decreases-loop
 returns c = all_done c.before.loop.invariant.0 (omega arith)
 
-pub fingerprint-spec : {M : Type 1} → statement M
-fingerprint-spec = tie.close (tie.spec invariant-loop decreases-loop loop-holds (λ c. search rules) (λ c. search rules) cast-n add-n
+pub fingerprint_spec : {M : Type 1} → statement M
+fingerprint_spec = tie.close (tie.spec invariant-loop decreases-loop loop-holds (λ c. search rules) (λ c. search rules) cast-n add-n
     (λ c. search rules) (λ c. search rules) loop-again (λ c. search rules) returns)

@@ -10,5 +10,5 @@ returns c = let e = sym c.before.is_name.ensures ∙ c.if1.true in (record { is 
 returns-2 : tie.Need-returns-2
 returns-2 c = let e = sym c.before.is_name.ensures ∙ c.if1.false in (record { is = rw e refl }, λ row. record { is = rw e refl })
 
-pub name-in-spec : {M : Type 1} → statement M
-name-in-spec = tie.close (tie.spec (λ c. search rules) returns returns-2)
+pub name_in_spec : {M : Type 1} → statement M
+name_in_spec = tie.close (tie.spec (λ c. search rules) returns returns-2)

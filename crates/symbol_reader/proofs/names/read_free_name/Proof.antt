@@ -4,9 +4,9 @@ use mathlib.Core.List.{[]}
 use borrow.Author.Rules.{rules}
 use Rattle.symbol_reader.proofs.names.read_free_name.Statement.{statement}
 use Rattle.symbol_reader.proofs.names.read_free_name.Tie as tie
-use Rattle.symbol_reader.specs.Leaves.{tokenAt}
-use Rattle.symbol_reader.proofs.Decoding.{name-mark}
-use Rattle.symbol_reader.proofs.TokenLaws.{tested, rowed-follows, stored-refuses}
+use Rattle.symbol_reader.specs.Leaves.{token_at}
+use Rattle.symbol_reader.proofs.Decoding.{name_mark}
+use Rattle.symbol_reader.proofs.TokenLaws.{tested, rowed_follows, stored_refuses}
 
 name-in-requires : tie.Need-name-in-requires
 name-in-requires c κs = c.due.ensures.inside
@@ -19,10 +19,10 @@ returns c =
     let d = m.before in
     let s = d.before.before.before.args in
     let test = tested d.due.ensures (λ filled. m.name_in.ensures.1 s.row) p.passed.ensures in (
-      λ ix vs few. rowed-follows test few (λ a. refl) (λ a. refl) (name-mark s.row [] (λ a. 0) (tokenAt s.text.now d.due.result)) w.rowed.ensures,
-      stored-refuses test w.rowed.ensures (λ c found h. h) (λ e. e),
+      λ ix vs few. rowed_follows test few (λ a. refl) (λ a. refl) (name_mark s.row [] (λ a. 0) (token_at s.text.now d.due.result)) w.rowed.ensures,
+      stored_refuses test w.rowed.ensures (λ c found h. h) (λ e. e),
     )
 
-pub read-free-name-spec : {M : Type 1} → statement M
-read-free-name-spec = tie.close (tie.spec (λ c. search rules) name-in-requires (λ c. search rules) (λ c. search rules)
+pub read_free_name_spec : {M : Type 1} → statement M
+read_free_name_spec = tie.close (tie.spec (λ c. search rules) name-in-requires (λ c. search rules) (λ c. search rules)
     (λ c. search rules) returns)

@@ -7,24 +7,24 @@ use Rattle.symbol_reader.proofs.numbers.read_index_or.Statement.{statement}
 use Rattle.symbol_reader.proofs.numbers.read_index_or.Tie as tie
 use Rattle.text.specs.Bytes.{Bytes}
 use Rattle.grammar.specs.Format.{Or, instead, given, number, or}
-use Rattle.grammar.specs.Layout.{symbolCells, symbolValues, symbolMarks}
-use Rattle.symbol_reader.specs.Leaves.{tokenAt, orCell}
-use Rattle.symbol_reader.proofs.Decoding.{or-in-range}
-use Rattle.symbol_reader.proofs.TokenLaws.{tested, filled-follows, stored-refuses}
+use Rattle.grammar.specs.Layout.{symbol_cells, symbol_values, symbol_marks}
+use Rattle.symbol_reader.specs.Leaves.{token_at, or_cell}
+use Rattle.symbol_reader.proofs.Decoding.{or_in_range}
+use Rattle.symbol_reader.proofs.TokenLaws.{tested, filled_follows, stored_refuses}
 
 -- what it takes: one cell
 module _ (w : Bytes) (cell bound : ℕ) where
-  a-cell : (a : Or ℕ) → symbolCells (or w cell (number bound [])) a ≡ orCell cell (λ n. n) a ∷ []
-  a-cell instead = refl
-  a-cell (given n) = refl
+  a_cell : (a : Or ℕ) → symbol_cells (or w cell (number bound [])) a ≡ or_cell cell (λ n. n) a ∷ []
+  a_cell instead = refl
+  a_cell (given n) = refl
 
-  no_value : (a : Or ℕ) → symbolValues (or w cell (number bound [])) a ≡ []
+  no_value : (a : Or ℕ) → symbol_values (or w cell (number bound [])) a ≡ []
   no_value instead = refl
   no_value (given n) = refl
 
-  no-mark : (a : Or ℕ) (i v : ℕ) → symbolMarks (or w cell (number bound [])) a i v ≡ []
-  no-mark instead i v = refl
-  no-mark (given n) i v = refl
+  no_mark : (a : Or ℕ) (i v : ℕ) → symbol_marks (or w cell (number bound [])) a i v ≡ []
+  no_mark instead i v = refl
+  no_mark (given n) i v = refl
 
 returns : tie.Need-returns
 returns c =
@@ -35,11 +35,11 @@ returns c =
     let s = d.before.before.before.before.args in
     let w = s.word.now in (
       λ vs rs small.
-          filled-follows (tested d.due.ensures (λ filled. m.number-or-in.ensures filled small) p.passed.ensures) (or-in-range w s.cell s.bound (tokenAt s.text.now d.due.result)) (a-cell w s.cell s.bound)
-          (λ x h. no_value w s.cell s.bound x) (no-mark w s.cell s.bound) f.filled.ensures,
-      λ small. stored-refuses (tested d.due.ensures (λ filled. m.number-or-in.ensures filled small) p.passed.ensures) f.filled.ensures (λ c found h. h) (λ e. e),
+          filled_follows (tested d.due.ensures (λ filled. m.number-or-in.ensures filled small) p.passed.ensures) (or_in_range w s.cell s.bound (token_at s.text.now d.due.result)) (a_cell w s.cell s.bound)
+          (λ x h. no_value w s.cell s.bound x) (no_mark w s.cell s.bound) f.filled.ensures,
+      λ small. stored_refuses (tested d.due.ensures (λ filled. m.number-or-in.ensures filled small) p.passed.ensures) f.filled.ensures (λ c found h. h) (λ e. e),
     )
 
-pub read-index-or-spec : {M : Type 1} → statement M
-read-index-or-spec = tie.close (tie.spec (λ c. search rules) (λ c. search rules) (λ c. search rules) (λ c. search rules)
+pub read_index_or_spec : {M : Type 1} → statement M
+read_index_or_spec = tie.close (tie.spec (λ c. search rules) (λ c. search rules) (λ c. search rules) (λ c. search rules)
     (λ c. search rules) returns)

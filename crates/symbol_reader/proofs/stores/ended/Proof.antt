@@ -31,7 +31,7 @@ returns-4 c =
     given_by i.before.before.before.s.given.1
     (record { goes = λ h. (refl, rw (l.low.ensures h.1, w.store-value.ensures) refl); stays = λ h. absurd (⊎_elim (λ k. omega (arith, k, i.before.if1.false)) (λ k. omega (arith, k, i.if2.false)) h) })
 
-pub ended-spec : {M : Type 1} → statement M
-ended-spec = tie.close (tie.spec (λ c. search rules) (λ c. search rules) returns returns-2 returns-3 (λ c. search rules)
+pub ended_spec : {M : Type 1} → statement M
+ended_spec = tie.close (tie.spec (λ c. search rules) (λ c. search rules) returns returns-2 returns-3 (λ c. search rules)
     (λ c. search rules) (λ c. search rules) store-value-requires (λ c. search rules) (λ c. search rules) (λ c. search rules)
     (λ c. search rules) returns-4)

@@ -19,6 +19,6 @@ returns-3 c =
     given_by c.before.before.before.s.given.1
     (record { goes = λ h. (refl, rw (c.low.ensures h.1)); stays = λ h. absurd (omega (arith, h, c.before.if1.false)) })
 
-pub filled-spec : {M : Type 1} → statement M
-filled-spec = tie.close (tie.spec (λ c. search rules) (λ c. search rules) returns returns-2 (λ c. search rules)
+pub filled_spec : {M : Type 1} → statement M
+filled_spec = tie.close (tie.spec (λ c. search rules) (λ c. search rules) returns returns-2 (λ c. search rules)
     (λ c. search rules) (λ c. search rules) (λ c. search rules) (λ c. search rules) returns-3)

@@ -25,6 +25,6 @@ returns-3 c =
     given_by s
     (record { goes = λ h. (refl, w.store-row.ensures (omega (arith, h.1)) (omega (arith, h.1)) h.2 h.3); stays = λ h. absurd (omega (arith, h, i.if1.false)) })
 
-pub rowed-spec : {M : Type 1} → statement M
-rowed-spec = tie.close (tie.spec (λ c. search rules) (λ c. search rules) returns returns-2 (λ c. search rules)
+pub rowed_spec : {M : Type 1} → statement M
+rowed_spec = tie.close (tie.spec (λ c. search rules) (λ c. search rules) returns returns-2 (λ c. search rules)
     store-row-requires (λ c. search rules) returns-3)

@@ -29,8 +29,8 @@ returns c =
     let three : n + 3 ≡ suc (suc (suc n)) = omega arith in
     λ p s k v. rw (add-one n, two, three, e.before.low.ensures p, e.low2.ensures s, d.low3.ensures k, c.low4.ensures v)
 
-pub store-row-spec : {M : Type 1} → statement M
-store-row-spec = tie.close (tie.spec (λ c. search rules) (λ c. search rules) (λ c. search rules) (λ c. search rules)
+pub store_row_spec : {M : Type 1} → statement M
+store_row_spec = tie.close (tie.spec (λ c. search rules) (λ c. search rules) (λ c. search rules) (λ c. search rules)
     (λ c. search rules) (λ c. search rules) (λ c. search rules) slice-write-rows-2 (λ c. search rules) (λ c. search rules)
     (λ c. search rules) slice-write-rows-3 (λ c. search rules) (λ c. search rules) (λ c. search rules) slice-write-rows-4
     same_length returns)

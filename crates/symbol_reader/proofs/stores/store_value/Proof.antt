@@ -6,7 +6,7 @@ use borrow.Author.Rules.{rules}
 use lib.ListN.{length-set}
 use Rattle.symbol_reader.proofs.stores.store_value.Statement.{statement}
 use Rattle.symbol_reader.proofs.stores.store_value.Tie as tie
-use Rattle.integers.proofs.Casts.{back-of}
+use Rattle.integers.proofs.Casts.{back_of}
 
 slice-set-from-den : tie.Need-slice-set-from-den
 slice-set-from-den c = simp length-set (omega arith)
@@ -18,8 +18,8 @@ returns : tie.Need-returns
 returns c =
     let f = c.before.before.args.f in
     let g = c.before.struct_told.given in
-    rw (add-one (2 * c.before.before.args.number), back-of f.num g.0.1, back-of f.den g.1.0.1)
+    rw (add-one (2 * c.before.before.args.number), back_of f.num g.0.1, back_of f.den g.1.0.1)
 
-pub store-value-spec : {M : Type 1} → statement M
-store-value-spec = tie.close (tie.spec (λ c. search rules) (λ c. search rules) (λ c. search rules) (λ c. search rules)
+pub store_value_spec : {M : Type 1} → statement M
+store_value_spec = tie.close (tie.spec (λ c. search rules) (λ c. search rules) (λ c. search rules) (λ c. search rules)
     (λ c. search rules) slice-set-from-den same_length returns)

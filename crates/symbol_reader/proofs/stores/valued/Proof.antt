@@ -24,6 +24,6 @@ returns-3 c =
     given_by i.before.before.s.given.1
     (record { goes = λ h. (refl, w.store-value.ensures); stays = λ h. absurd (omega (arith, h, i.if1.false)) })
 
-pub valued-spec : {M : Type 1} → statement M
-valued-spec = tie.close (tie.spec (λ c. search rules) (λ c. search rules) returns returns-2 store-value-requires
+pub valued_spec : {M : Type 1} → statement M
+valued_spec = tie.close (tie.spec (λ c. search rules) (λ c. search rules) returns returns-2 store-value-requires
     (λ c. search rules) (λ c. search rules) returns-3)

@@ -25,6 +25,6 @@ returns-4 c =
     given_by d.before.before.before.s.given.1
     ((λ h. absurd (omega (arith, d.if1.false))), λ h. given_by m.m2.given.1 (rw w.wide.ensures, omega arith))
 
-pub passed-spec : {M : Type 1} → statement M
-passed-spec = tie.close (tie.spec (λ c. search rules) (λ c. search rules) returns returns-2 (λ c. search rules)
+pub passed_spec : {M : Type 1} → statement M
+passed_spec = tie.close (tie.spec (λ c. search rules) (λ c. search rules) returns returns-2 (λ c. search rules)
     (λ c. search rules) (λ c. search rules) (λ c. search rules) returns-3 returns-4)

@@ -13,5 +13,5 @@ returns-2 c = rw c.enum-told2.given.1 refl
 returns-3 : tie.Need-returns-3
 returns-3 c = rw c.enum-told3.given.1 refl
 
-pub value-in-spec : {M : Type 1} → statement M
-value-in-spec = tie.close (tie.spec (λ c. search rules) (λ c. search rules) (λ c. search rules) returns returns-2 returns-3)
+pub value_in_spec : {M : Type 1} → statement M
+value_in_spec = tie.close (tie.spec (λ c. search rules) (λ c. search rules) (λ c. search rules) returns returns-2 returns-3)

@@ -11,5 +11,5 @@ returns c = given_by c.enum_told.given.1 c.enum_told.given.1
 returns-2 : tie.Need-returns-2
 returns-2 c = given_by c.before.s.given.1 refl
 
-pub at-place-spec : {M : Type 1} → statement M
-at-place-spec = tie.close (tie.spec (λ c. search rules) (λ c. search rules) returns returns-2)
+pub at_place_spec : {M : Type 1} → statement M
+at_place_spec = tie.close (tie.spec (λ c. search rules) (λ c. search rules) returns returns-2)

@@ -3,7 +3,7 @@ use mathlib.Core.Path.{refl}
 use borrow.Author.Rules.{rules}
 use Rattle.symbol_reader.proofs.words.read_sense.Statement.{statement}
 use Rattle.symbol_reader.proofs.words.read_sense.Tie as tie
-use Rattle.symbol_reader.proofs.TokenLaws.{tested, filled-follows, stored-refuses}
+use Rattle.symbol_reader.proofs.TokenLaws.{tested, filled_follows, stored_refuses}
 
 returns : tie.Need-returns
 returns c =
@@ -11,8 +11,8 @@ returns c =
     let p = f.before.before in
     let m = p.before in
     let t = tested m.before.due.ensures (λ filled. m.sense-in.ensures) p.passed.ensures in
-    ((λ vs rs. filled-follows t (λ a k e d. e) (λ a. refl) (λ a d. refl) (λ a i v. refl) f.filled.ensures), stored-refuses t f.filled.ensures (λ c found h. h) (λ e. e))
+    ((λ vs rs. filled_follows t (λ a k e d. e) (λ a. refl) (λ a d. refl) (λ a i v. refl) f.filled.ensures), stored_refuses t f.filled.ensures (λ c found h. h) (λ e. e))
 
-pub read-sense-spec : {M : Type 1} → statement M
-read-sense-spec = tie.close (tie.spec (λ c. search rules) (λ c. search rules) (λ c. search rules) (λ c. search rules)
+pub read_sense_spec : {M : Type 1} → statement M
+read_sense_spec = tie.close (tie.spec (λ c. search rules) (λ c. search rules) (λ c. search rules) (λ c. search rules)
     (λ c. search rules) returns)

@@ -5,25 +5,25 @@ use Rattle.symbol_reader.proofs.words.sense_in.Statement.{statement}
 use Rattle.symbol_reader.proofs.words.sense_in.Tie as tie
 
 returns : tie.Need-returns
-returns c = record { is = rw (sym c.before.is_IsWord.ensures.by-definition ∙ c.if1.true) refl }
+returns c = record { is = rw (sym c.before.is_IsWord.ensures.by_definition ∙ c.if1.true) refl }
 
 returns-2 : tie.Need-returns-2
 returns-2 c =
     let e1 = c.before.before.before in
-    record { is = rw (sym e1.before.is_IsWord.ensures.by-definition ∙ e1.if1.false, sym c.before.is-word2.ensures.by-definition ∙ c.if2.true) refl }
+    record { is = rw (sym e1.before.is_IsWord.ensures.by_definition ∙ e1.if1.false, sym c.before.is-word2.ensures.by_definition ∙ c.if2.true) refl }
 
 returns-3 : tie.Need-returns-3
 returns-3 c =
     let e2 = c.before.before.before in
     let e1 = e2.before.before.before in
-    record { is = rw (sym e1.before.is_IsWord.ensures.by-definition ∙ e1.if1.false, sym e2.before.is-word2.ensures.by-definition ∙ e2.if2.false, sym c.before.is-word3.ensures.by-definition ∙ c.if3.true) refl }
+    record { is = rw (sym e1.before.is_IsWord.ensures.by_definition ∙ e1.if1.false, sym e2.before.is-word2.ensures.by_definition ∙ e2.if2.false, sym c.before.is-word3.ensures.by_definition ∙ c.if3.true) refl }
 
 returns-4 : tie.Need-returns-4
 returns-4 c =
     let e2 = c.before.before.before in
     let e1 = e2.before.before.before in
-    record { is = rw (sym e1.before.is_IsWord.ensures.by-definition ∙ e1.if1.false, sym e2.before.is-word2.ensures.by-definition ∙ e2.if2.false, sym c.before.is-word3.ensures.by-definition ∙ c.if3.false) refl }
+    record { is = rw (sym e1.before.is_IsWord.ensures.by_definition ∙ e1.if1.false, sym e2.before.is-word2.ensures.by_definition ∙ e2.if2.false, sym c.before.is-word3.ensures.by_definition ∙ c.if3.false) refl }
 
-pub sense-in-spec : {M : Type 1} → statement M
-sense-in-spec = tie.close (tie.spec (λ c. search rules) (λ c. search rules) returns (λ c. search rules) (λ c. search rules)
+pub sense_in_spec : {M : Type 1} → statement M
+sense_in_spec = tie.close (tie.spec (λ c. search rules) (λ c. search rules) returns (λ c. search rules) (λ c. search rules)
     returns-2 (λ c. search rules) (λ c. search rules) returns-3 returns-4)

@@ -1,11 +1,11 @@
 -- `value::Digits::counted` meets its contract: it is `appended` with the zeros held back.
 -- Assumes nothing.
-use Rattle.powers.proofs.PowersLaws.{ten-positive}
+use Rattle.powers.proofs.PowersLaws.{ten_positive}
 use Rattle.value.proofs.Digits.counted.Statement.{statement}
 use Rattle.value.proofs.Digits.counted.Tie as tie
 
 appended-requires : tie.Need-appended-requires
-appended-requires c κs = (c.requires.0, c.requires.1, ten-positive _)
+appended-requires c κs = (c.requires.0, c.requires.1, ten_positive _)
 
 returns : tie.Need-returns
 returns c = c.appended.ensures

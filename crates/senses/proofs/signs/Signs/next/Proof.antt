@@ -6,8 +6,8 @@ use lib.IntN.{ℤ, pos}
 use lib.Signed.{lt_z}
 use mir.Syntax.{w64}
 use mir.Val.{to_z, of_z}
-use Rattle.integers.proofs.Casts.{at-most-zero}
-use Rattle.senses.proofs.Numbers.{at-least-zero}
+use Rattle.integers.proofs.Casts.{at_most_zero}
+use Rattle.senses.proofs.Numbers.{at_least_zero}
 use Rattle.senses.proofs.signs.Signs.next.Statement.{statement}
 use Rattle.senses.proofs.signs.Signs.next.Tie as tie
 
@@ -18,8 +18,8 @@ returns c =
     let back : to_z w64 (of_z w64 m.result) ≡ m.result = search rules in
     let n = back ∙ m.ensures in
     ap₂ (λ (x y : Bool). record { nonnegative = s.nonnegative && x; nonpositive = s.nonpositive && y })
-    (at-least-zero (to_z w64 (of_z w64 m.result)) ∙ ap (λ (z : ℤ). not (lt_z z (pos 0))) n)
-    (at-most-zero (to_z w64 (of_z w64 m.result)) ∙ ap (λ (z : ℤ). not (lt_z (pos 0) z)) n)
+    (at_least_zero (to_z w64 (of_z w64 m.result)) ∙ ap (λ (z : ℤ). not (lt_z z (pos 0))) n)
+    (at_most_zero (to_z w64 (of_z w64 m.result)) ∙ ap (λ (z : ℤ). not (lt_z (pos 0) z)) n)
 
-pub next-spec : {M : Type 1} → statement M
-next-spec = tie.close (tie.spec (λ c. search rules) returns)
+pub next_spec : {M : Type 1} → statement M
+next_spec = tie.close (tie.spec (λ c. search rules) returns)
