@@ -3,3 +3,6 @@ mod Rounded
 pub mod Ways
 pub mod Lowest
 mod Whole
+pub mod Laws
+pub mod Meaning
+pub mod QuotientLaws

@@ -15,7 +15,8 @@ use Rattle.integers.specs.Integers.{*ℤ-neg_l}
 use Rattle.integers.specs.Gcd.{gcd, gcd_positive}
 use Rattle.integers.specs.Coprime.{Coprime, coprime_one, coprime_sym, sum_coprime}
 use Rattle.arithmetic.specs.Quotient.{Quotient, ◌≈◌, ◌+Q◌, ◌*Q◌, lowest}
-use Rattle.arithmetic.specs.QuotientLaws.{Positive, lowest_is}
+use Rattle.arithmetic.specs.QuotientLaws.{Positive}
+use Rattle.arithmetic.proofs.QuotientLaws.{lowest_is}
 use Rattle.arithmetic.specs.Fraction.{limit}
 use Rattle.arithmetic.specs.Parts.{over}
 

@@ -21,7 +21,7 @@ use Rattle.arithmetic.specs.Outcome.{Outcome, gives, refuses}
 use Rattle.arithmetic.specs.Quotient.{Quotient, lowest}
 use Rattle.arithmetic.specs.QuotientLaws.{Positive}
 use Rattle.arithmetic.specs.Fraction.{limit, IsFraction, is_fraction, exact, ratio_of, within, reduced_of, on_fractions, after, arithmetic_says, order, less, equal, greater}
-use Rattle.arithmetic.specs.Meaning.{truth, and-true, true_and, exact_positive}
+use Rattle.arithmetic.proofs.Meaning.{truth, and-true, true_and, exact_positive}
 use Rattle.arithmetic.specs.Parts.{is_shaped, over}
 use Rattle.arithmetic.specs.declared.Fraction.{Fraction}
 use Rattle.arithmetic.specs.declared.Ratio.{Ratio}

@@ -10,8 +10,9 @@ use Rattle.integers.specs.Integers.{*ℤ-pos-one}
 use Rattle.arithmetic.specs.Outcome.{Outcome, gives, refuses}
 use Rattle.arithmetic.specs.Quotient.{◌≈◌, ◌+Q◌, ◌*Q◌}
 use Rattle.arithmetic.specs.Fraction.{limit, IsFraction, is_fraction, exact, within, product_of, sum_of, after, add_product_of}
-use Rattle.arithmetic.specs.Meaning.{are_both, exact_unique, product_then_sum}
-use Rattle.arithmetic.specs.Laws.{zero_f, zero_is, sum_zero, product-zero, product_is}
+use Rattle.arithmetic.proofs.Meaning.{are_both, exact_unique, product_then_sum}
+use Rattle.arithmetic.specs.Laws.{zero_f}
+use Rattle.arithmetic.proofs.Laws.{zero_is, sum_zero, product-zero, product_is}
 use Rattle.arithmetic.specs.Parts.{over}
 use Rattle.arithmetic.specs.declared.Fraction.{Fraction}
 use Rattle.arithmetic.proofs.Ways.{on_fractions_lem}

@@ -1,6 +1,8 @@
 // The arithmetic of values that are known to be fractions: product, sum, a sum and a product more, comparison, floor and
 // ceiling, without a test of the operands. Each contract speaks of fractions alone; any other pair of numbers gets some answer.
 // `fraction` is the face that tests. What every crate means by a fraction stands here, too.
+#![tactic(auto)]
+
 ghost use Rattle.std.specs.Prelude.{◌≡◌, ◌*◌, ◌≤◌, ◌<◌, pos, nat_abs, ◌*ℤ◌, ◌+ℤ◌, ◌<ℤ◌};
 ghost use Rattle.std.specs.Int.Signed.{mag};
 ghost use Rattle.integers.specs.Signs.{with_sign};
@@ -13,14 +15,14 @@ ghost use Rattle.arithmetic.specs.Parts.{is_shaped, over};
 const LIMIT: u64 = 2147483647;
 
 // A numerator over a denominator. Any two numbers can stand here; `IsFraction` says which pairs are values.
-#[derive(Drop)]
+#[derive(Clone, Copy)]
 pub struct Fraction {
     pub num: i32,
     pub den: i32,
 }
 
 // What a product or a sum answers: 01's refusals 4 and 12 are NotAFraction and TooWide.
-#[derive(Drop)]
+#[derive(Clone, Copy)]
 pub enum Arithmetic {
     Value(Fraction),
     NotAFraction,
@@ -28,7 +30,7 @@ pub enum Arithmetic {
 }
 
 // How two values compare.
-#[derive(Drop)]
+#[derive(Clone, Copy)]
 pub enum Comparison {
     Less,
     Equal,
@@ -37,14 +39,14 @@ pub enum Comparison {
 }
 
 // What floor and ceiling answer.
-#[derive(Drop)]
+#[derive(Clone, Copy)]
 pub enum Rounding {
     Whole(i32),
     NotAFraction,
 }
 
 // An exact result: a sign, true for negative, and a numerator over a denominator, in lowest terms or not.
-#[derive(Drop)]
+#[derive(Clone, Copy)]
 pub struct Ratio {
     pub negative: bool,
     pub top: u64,

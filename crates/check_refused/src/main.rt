@@ -1,4 +1,6 @@
 // Document 01's example with `D1 L 0`: the program prints `refused 15 14`.
+#![tactic(auto)]
+
 fn main() {
     program::run();
 }

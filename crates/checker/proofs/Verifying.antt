@@ -12,11 +12,12 @@ use Rattle.tables.specs.declared.Header.{Header}
 use Rattle.grammar.specs.Tree.{Tree}
 use Rattle.grammar.specs.Header.{header_of}
 use Rattle.grammar.specs.Tables.{index_table, value_table, row_table}
-use Rattle.grammar.specs.Texts.{SpellsTree, ReadText, taken, refused, read_of, read_sound, read_complete}
+use Rattle.grammar.specs.Texts.{SpellsTree, ReadText, taken, refused, read_of}
+use Rattle.grammar.proofs.Texts.{read_sound, read_complete}
 use Rattle.grammar.specs.declared.Refusal.{Refusal}
 use Rattle.rules.specs.Check.{check_of}
 use Rattle.rules.specs.Meets.{Meets}
-use Rattle.rules.specs.Agreement.{check_says}
+use Rattle.rules.proofs.Agreement.{check_says}
 use Rattle.reader.specs.Promise as reading
 use Rattle.reader.specs.Promise.{Course, not_begun, begun, course_of, table_of, Begun, CertificateRead}
 use Rattle.reader.proofs.Courses.{begun_course, by_course}
@@ -24,7 +25,7 @@ use Rattle.reader.specs.declared.Reading.{Reading}
 use Rattle.reader.specs.declared.Reading.TheVariants as read
 use Rattle.encoding.specs.Held.{Held}
 use Rattle.encoding.specs.Encodes.{Encodes}
-use Rattle.encoding.specs.HeldLaws.{held_encodes}
+use Rattle.encoding.proofs.HeldLaws.{held_encodes}
 use Rattle.verdicts.specs.Verdicts.{verdict_says}
 use Rattle.verdicts.specs.declared.Verdict.{Verdict}
 use Rattle.checker.specs.Means.{not_verified, passes, verified_means}

@@ -5,11 +5,12 @@ use Rattle.std.proofs.Common.{arith}
 use Rattle.text.specs.Bytes.{Bytes}
 use Rattle.tables.specs.Limits.{has_cells, is_short}
 use Rattle.grammar.specs.Tree.{Tree}
-use Rattle.grammar.specs.Texts.{ReadText, taken, refused, read_of, read_sound}
+use Rattle.grammar.specs.Texts.{ReadText, taken, refused, read_of}
+use Rattle.grammar.proofs.Texts.{read_sound}
 use Rattle.rules.specs.Result as rules
 use Rattle.rules.specs.Check.{check_of}
 use Rattle.rules.specs.Sentence.Points.{SentenceOf}
-use Rattle.rules.specs.Sentence.Verified as sentence
+use Rattle.rules.proofs.Sentence.Verified as sentence
 use Rattle.reader.specs.Promise.{not_begun, begun, course_of}
 use Rattle.checker.specs.Promise.{verifies, refuses, checked_says, answer_of}
 

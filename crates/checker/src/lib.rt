@@ -1,4 +1,6 @@
 // Verify a certificate: reading, then checking.
+#![tactic(auto)]
+
 ghost use Rattle.checker.specs.Promise.{CertificateVerified};
 
 use grammar::Refusal;
@@ -8,7 +10,7 @@ use verdicts::Verdict;
 mod checking;
 
 // What verifying a certificate answers: it is verified; or it was refused, for a reason and at a line.
-#[derive(Drop)]
+#[derive(Clone, Copy)]
 pub enum Verification {
     Verified,
     Refused(Refusal, usize),

@@ -16,15 +16,16 @@ use Rattle.tables.specs.declared.Header.{Header}
 use Rattle.grammar.specs.Tree.{Direction, minimize, maximize, at_most, at_least, End, infinite, finite, Claim, infeas, range, Derivation, Tree}
 use Rattle.grammar.specs.Certificate.{claim_cell, of_claim}
 use Rattle.grammar.specs.Header.{is_maximize}
-use Rattle.rules.specs.Tests.{not-true}
+use Rattle.rules.proofs.Tests.{not-true}
 use Rattle.rules.specs.Rows.{Constraint, constraint_of, objective_with, row_of, row_at}
 use Rattle.rules.specs.Solutions.{end_to_reach}
 use Rattle.rules.specs.Assumptions.{assumptions_of, is_empty}
 use Rattle.rules.specs.Claims.{Asked, nothing, absurdity, domination, asked_by, asked, last_from, last_row, last_passes, answers, is_proved, last_place}
 use Rattle.rules.specs.Sentence.Formed.{EndFormed}
 use Rattle.encoding.specs.Encodes.{EncodesClaim, no_derivation, derivation_at, Encodes}
-use Rattle.encoding.specs.EncodesLaws.{maximize_is, given_are, rows_are, derived_at}
-use Rattle.encoding.specs.Claims.{is_infeas, end_in, end_formed, claim_word}
+use Rattle.encoding.proofs.EncodesLaws.{maximize_is, given_are, rows_are, derived_at}
+use Rattle.encoding.specs.Claims.{is_infeas, end_in}
+use Rattle.encoding.proofs.ClaimsLaws.{end_formed, claim_word}
 use Rattle.claims.specs.Asked.{against, asked_says, meets}
 use Rattle.claims.specs.contracts.proving.Asked.{the_type}
 use Rattle.claims.specs.declared.proving.Asked as code

@@ -15,16 +15,17 @@ use Rattle.tables.specs.Limits.{most_rows, most_assumptions}
 use Rattle.tables.specs.declared.Header.{Header}
 use Rattle.grammar.specs.Tree.{Multiplier, Reason, asm, lin, rnd, uns, sol, Row, Derivation, Tree}
 use Rattle.grammar.specs.Certificate.{assumptions}
-use Rattle.rules.specs.Tests.{All, In, Decides, fails, failed, decides_as}
+use Rattle.rules.specs.Tests.{All, In, Decides}
+use Rattle.rules.proofs.Tests.{fails, failed, decides_as}
 use Rattle.rules.specs.Rows.{Entry, given_row, derived_row, entries, entry_at}
-use Rattle.rules.specs.RowsLaws.{entry_given, entry_beyond}
+use Rattle.rules.proofs.RowsLaws.{entry_given, entry_beyond}
 use Rattle.rules.specs.Assumptions.{IsAssumption, assumed, HasReason, Assumes, itself, by_lin, by_rnd, by_first, by_second, NoAssumptions, assumptions_of, is_empty}
-use Rattle.rules.specs.AssumptionsLaws.{decides_assumed, only_assumptions, decides_no_assumptions}
+use Rattle.rules.proofs.AssumptionsLaws.{decides_assumed, only_assumptions, decides_no_assumptions}
 use Rattle.rules.specs.Derivations.{named}
 use Rattle.sets.specs.Sets.{bit, one}
 use Rattle.sets.specs.SetsLaws.{bit_lt, bit-zero}
 use Rattle.encoding.specs.Encodes.{EncodesDerivation, Encodes}
-use Rattle.encoding.specs.EncodesLaws.{given_are, rows_are, DerivedRow, derived_row_lem}
+use Rattle.encoding.proofs.EncodesLaws.{given_are, rows_are, DerivedRow, derived_row_lem}
 use Rattle.claims.specs.Masks.{number, mask_at, Represents, union_bit, removed, without_bit, reason_bit}
 use Rattle.claims.proofs.Numbering.{number-next, number_once, number_few}
 

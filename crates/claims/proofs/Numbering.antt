@@ -15,9 +15,9 @@ use Rattle.grammar.specs.Tree.{Derivation, Tree}
 use Rattle.grammar.specs.Certificate.{is_assumption, assumptions}
 use Rattle.grammar.specs.Ranges.{TreeInRange}
 use Rattle.rules.specs.Rows.{Entry, given_row, derived_row, no_row, entry_at}
-use Rattle.rules.specs.RowsLaws.{entry_given, entry_derived}
+use Rattle.rules.proofs.RowsLaws.{entry_given, entry_derived}
 use Rattle.rules.specs.Assumptions.{IsAssumption, assumed}
-use Rattle.rules.specs.AssumptionsLaws.{decides_assumed}
+use Rattle.rules.proofs.AssumptionsLaws.{decides_assumed}
 use Rattle.claims.specs.Masks.{number}
 
 -- one more is counted where it is an assumption

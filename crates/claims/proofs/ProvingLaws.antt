@@ -22,7 +22,7 @@ use Rattle.linear.specs.Comparing.{Compares}
 use Rattle.linear.specs.declared.domination.Compared.{Compared}
 use Rattle.encoding.specs.Places.{indices_at, values_at}
 use Rattle.encoding.specs.Encodes.{Encodes}
-use Rattle.encoding.specs.EncodesLaws.{variables_are, maximize_is}
+use Rattle.encoding.proofs.EncodesLaws.{variables_are, maximize_is}
 use Rattle.encoding.specs.Rows.{RowIs}
 use Rattle.encoding.specs.declared.rows.ListedRow.{ListedRow}
 use Rattle.grammar.specs.Header.{is_maximize}

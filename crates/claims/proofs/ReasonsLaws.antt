@@ -26,7 +26,7 @@ use Rattle.sets.specs.Sets.{bit, one}
 use Rattle.sets.specs.SetsLaws.{bit-zero}
 use Rattle.encoding.specs.Places.{word_of, named_by}
 use Rattle.encoding.specs.Encodes.{EncodesDerivation, Encodes}
-use Rattle.encoding.specs.EncodesLaws.{by_word, given-at, derived_row_lem}
+use Rattle.encoding.proofs.EncodesLaws.{by_word, given-at, derived_row_lem}
 use Rattle.encoding.specs.Rows.{word_says}
 use Rattle.encoding.specs.declared.reasons.Word.{Word}
 use Rattle.encoding.specs.contracts.reasons.Word.{the_type}

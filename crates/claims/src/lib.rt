@@ -1,6 +1,8 @@
 // The claim of a certificate in tables: the end that solutions are asked to reach, and whether the last derived row proves the
 // claim, with no assumptions. No public function asks anything of its caller: what it says of a certificate holds of tables that
 // encode one.
+#![tactic(auto)]
+
 ghost use Rattle.std.specs.Prelude.{◌≡◌, List, ℕ, ℤ};
 ghost use Rattle.grammar.specs.Tree.{Tree};
 ghost use Rattle.rules.specs.Result.{require};

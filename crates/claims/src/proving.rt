@@ -22,7 +22,7 @@ use senses::Sense;
 use tables::Header;
 
 // What the claim asks of the last row: nothing, to be absurd, or to dominate OBJ with a bound.
-#[derive(Drop)]
+#[derive(Clone, Copy)]
 pub(crate) enum Asked {
     Nothing,
     Absurdity,

@@ -27,7 +27,7 @@ use Rattle.rules.specs.Derivations.{named, check_derivation}
 use Rattle.linear.specs.Coefficients.{marked}
 use Rattle.encoding.specs.Places.{indices_at, values_at, multipliers_at, integers_at, word_of, multipliers_of, named_by}
 use Rattle.encoding.specs.Encodes.{EncodesRow, EncodesMultipliers, EncodesReason, EncodesDerivation, no_derivation, derivation_at, Encodes}
-use Rattle.encoding.specs.EncodesLaws.{variables_are, given_are, rows_are, integers-below, by_word, marks-listed, derived_at}
+use Rattle.encoding.proofs.EncodesLaws.{variables_are, given_are, rows_are, integers-below, by_word, marks-listed, derived_at}
 use Rattle.encoding.specs.Rows.{RowIs, word_says}
 use Rattle.encoding.specs.declared.rows.ListedRow.{ListedRow}
 use Rattle.encoding.specs.declared.reasons.Word.{Word}

@@ -19,7 +19,7 @@ use Rattle.linear.specs.ListsLaws.{formed_below, fractions_in}
 use Rattle.linear.specs.Coefficients.{AreFractions}
 use Rattle.encoding.specs.Places.{indices_at, values_at}
 use Rattle.encoding.specs.Encodes.{Encodes}
-use Rattle.encoding.specs.EncodesLaws.{variables_are}
+use Rattle.encoding.proofs.EncodesLaws.{variables_are}
 use Rattle.encoding.specs.Rows.{RowIs}
 use Rattle.encoding.specs.declared.rows.ListedRow.{ListedRow}
 use Rattle.derivations.specs.Checks.{Lists}

@@ -21,7 +21,7 @@ use Rattle.rules.specs.Tests.{All, all_of}
 use Rattle.rules.specs.Rows.{entry_at}
 use Rattle.rules.specs.Derivations.{is_past, is_spent}
 use Rattle.encoding.specs.Encodes.{Encodes}
-use Rattle.encoding.specs.EncodesLaws.{given-at, derived_row_lem, DerivedRow}
+use Rattle.encoding.proofs.EncodesLaws.{given-at, derived_row_lem, DerivedRow}
 use Rattle.encoding.specs.Rows.{LastIs}
 
 -- ---- one row

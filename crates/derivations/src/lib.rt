@@ -1,6 +1,8 @@
 // Derived rows of a certificate in tables, each by its reason, in document 01's order: first 11 over the rows that the reason
 // names, and then what the reason asks. No public function asks anything of its caller: what holds of tables that encode a
 // certificate is said of these.
+#![tactic(auto)]
+
 ghost use Rattle.std.specs.Prelude.{◌≡◌, List, ℕ, ◌+◌, ◌<◌, length};
 ghost use Rattle.arithmetic.specs.Fraction.{IsFraction};
 ghost use Rattle.arithmetic.specs.declared.Fraction.{Fraction as Value};

@@ -1,17 +1,19 @@
 // Greatest common divisors by the binary method: one, or three in one loop. No public function asks anything of its caller.
+#![tactic(auto)]
+
 ghost use Rattle.std.specs.Prelude.{◌≡◌, ◌<◌, ◌≤◌, true};
 ghost use Rattle.integers.specs.Gcd.{gcd as gcd_of};
 ghost use Rattle.integers.specs.Binary.{Odd, odd_of, Narrow, Paired, Stepped, Going};
 
 // Two numbers whose greatest common divisor is wanted.
-#[derive(Drop)]
+#[derive(Clone, Copy)]
 pub struct Pair {
     pub x: u64,
     pub y: u64,
 }
 
 // The greatest common divisors of three pairs.
-#[derive(Drop)]
+#[derive(Clone, Copy)]
 pub struct Divisors {
     pub a: u64,
     pub b: u64,

@@ -17,7 +17,7 @@ use Rattle.tables.specs.declared.Entry.{Entry}
 use Rattle.tables.specs.declared.Pairs.{Pairs}
 use Rattle.grammar.specs.Certificate.{sense_cell}
 use Rattle.grammar.specs.Tree.{Sense, equal, at_most, at_least, Row, Tree}
-use Rattle.rules.specs.RowsLaws.{decides_sense}
+use Rattle.rules.proofs.RowsLaws.{decides_sense}
 use Rattle.senses.specs.Senses.{sense_is}
 use Rattle.senses.specs.declared.Sense as code
 use Rattle.encoding.specs.Places.{terms_at, pairs_from, cell_of, number_of, count_of, side_at, own_terms, multipliers_of}

@@ -23,14 +23,3 @@ is_infeas (range lower upper) = false
 abbrev pub end_in : Bool → Claim → tree.End
 end_in upper infeas = infinite
 end_in upper (range low high) = cond upper high low
-
--- an end of a claim that is well formed is well formed
-pub end_formed : (upper : Bool) (c : Claim) → ClaimFormed c → EndFormed (end_in upper c)
-end_formed upper infeas h = tt
-end_formed true (range low high) h = h.1
-end_formed false (range low high) h = h.0
-
--- the word of an encoded claim
-pub claim_word : (index : List ℕ) (values : List ℤ) (cell n : ℕ) (c : Claim) → EncodesClaim index values cell n c → get_or index cell 0 ≡ claim_cell (of_claim c).0
-claim_word index values cell n infeas h = h
-claim_word index values cell n (range low high) h = h.0.0

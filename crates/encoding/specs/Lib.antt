@@ -5,7 +5,5 @@ pub mod Encodes
 pub mod Held
 pub mod Rows
 pub mod Claims
-pub mod EncodesLaws
 pub mod HeldPairs
 pub mod HeldReasons
-pub mod HeldLaws

@@ -10,7 +10,7 @@ use arithmetic::Fraction;
 use tables::words;
 
 // An end of a range.
-#[derive(Drop)]
+#[derive(Clone, Copy)]
 pub enum End {
     Infinite,
     Finite(Fraction),

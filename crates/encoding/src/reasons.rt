@@ -8,7 +8,7 @@ ghost use Rattle.encoding.specs.Rows.{ReasonIs, LastIs, word_says};
 use tables::{Pairs, words};
 
 // The word of a reason.
-#[derive(Drop)]
+#[derive(Clone, Copy)]
 pub enum Word {
     Asm,
     Lin,

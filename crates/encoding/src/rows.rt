@@ -14,7 +14,7 @@ use senses::Sense;
 use tables::{Pairs, words};
 
 // A row: the place of its name, its sense, its right side, and where its terms stand, which may be the objective's.
-#[derive(Drop)]
+#[derive(Clone, Copy)]
 pub struct ListedRow {
     pub place: usize,
     pub sense: Sense,

@@ -14,7 +14,7 @@ use lib.ListN.{length, get_or, drop, drop_of_length-le}
 use Rattle.integers.specs.Integers.{ring, cancel, +ℤ_swap}
 use Rattle.integers.specs.Signs.{with_sign, nat_abs-neg, nat_abs-with_sign}
 use Rattle.text.specs.Bytes.{Bytes, is_digit, every, is_numeral, number_after, number_of}
-use Rattle.text.specs.BytesLaws.{uncons}
+use Rattle.text.proofs.BytesLaws.{uncons}
 use Rattle.numerals.specs.Spelling.{Sign, unsigned, plus, minus, is_minus, most_power}
 use Rattle.numerals.specs.Reading.{after_letter, exponent_from}
 use Rattle.numerals.proofs.Forms.{by_test}

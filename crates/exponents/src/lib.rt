@@ -1,4 +1,6 @@
 // The exponent of a value: `E` or `e`, an optional sign and digits; and the power of ten that it comes to.
+#![tactic(auto)]
+
 ghost use Rattle.std.specs.Prelude.{◌≡◌, ℕ, ◌+◌, ◌*◌, ◌≤◌, pos, ◌+ℤ◌, ◌-ℤ◌, drop};
 ghost use Rattle.integers.specs.Signs.{with_sign};
 ghost use Rattle.exponents.specs.Exponents.{is_letter, Saturated, NumberRead, ExponentRead, power_says, power_within, opposed};
@@ -23,7 +25,7 @@ pub fn is_letter(b: u8) -> bool
 
 // An exponent: whether it is negative, and its number, or one that is as good where that is greater than any slice is long. Or
 // what stands there is no exponent.
-#[derive(Drop)]
+#[derive(Clone, Copy)]
 pub enum Exponent {
     Of(bool, usize),
     NotDigits,
@@ -79,7 +81,7 @@ pub fn read_exponent(token: &[u8], from: usize) -> Exponent
 }
 
 // A power of ten: up, down, or outside -18 to 18.
-#[derive(Drop)]
+#[derive(Clone, Copy)]
 pub enum Power {
     Up(usize),
     Down(usize),

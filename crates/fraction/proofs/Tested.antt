@@ -14,7 +14,7 @@ use Rattle.integers.specs.Coprime.{coprime_one}
 use Rattle.integers.proofs.Casts.{positive_mag}
 use Rattle.arithmetic.specs.Outcome.{Outcome, refuses}
 use Rattle.arithmetic.specs.Fraction.{limit, is_fraction, on_fractions}
-use Rattle.arithmetic.specs.Meaning.{truth, and-true}
+use Rattle.arithmetic.proofs.Meaning.{truth, and-true}
 use Rattle.arithmetic.specs.Parts.{is_shaped}
 use Rattle.arithmetic.specs.declared.Fraction.{Fraction}
 use Rattle.arithmetic.proofs.Ways.{Told, shaped_is, not_fractions}

@@ -1,6 +1,8 @@
 // Values within the limit: fractions in lowest terms, whose numerator and denominator have magnitudes of at most
 // 2,147,483,647, with product, sum, a sum and a product more, comparison, floor and ceiling, and any quotient of whole numbers
 // brought to such a fraction. No public function asks anything of its caller: operands that are no fractions are refused.
+#![tactic(auto)]
+
 ghost use Rattle.std.specs.Prelude.{◌≡◌, ◌&&◌, ◌<◌, eqb, nat_abs};
 ghost use Rattle.std.specs.Int.{◌∣◌};
 ghost use Rattle.integers.specs.Gcd.{gcd as gcd_of};

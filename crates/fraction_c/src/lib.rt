@@ -1,5 +1,7 @@
 // The arithmetic of `fraction` for C: operands by value, the result through pointers, and as what is returned 0 or 01's
 // number of the refusal, on which nothing is stored. include/fraction.h declares the functions.
+#![tactic(auto)]
+
 ghost use Rattle.arithmetic.specs.Fraction.{product_of, sum_of, compare_of, floor_of, ceiling_of, arithmetic_says, comparison_says, rounding_says};
 ghost use Rattle.fraction_c.specs.Stored.{Stored, pair, sign_of};
 

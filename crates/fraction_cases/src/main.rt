@@ -1,4 +1,6 @@
 // The arithmetic on fixed cases, a line each: those of document 01, operands that are no fractions, and both sides of the limit.
+#![tactic(auto)]
+
 use fraction::{Arithmetic, Comparison, Fraction, Rounding};
 
 fn text(s: &[u8]) {

@@ -16,7 +16,7 @@ use Rattle.numerals.specs.Reading.{read_value, outcome_of, narrowed}
 use Rattle.grammar.specs.Tree.{Tree, TermList, maximize, at_most, obj, listed, finite, range, rnd, never}
 use Rattle.grammar.specs.Reading.{read}
 use Rattle.grammar.specs.Layout.{gather, marks}
-use Rattle.grammar.specs.Texts.{SpellsTree, Certificate, SpellsCertificate, taken, read_of, read_sound}
+use Rattle.grammar.specs.Texts.{SpellsTree, Certificate, SpellsCertificate, taken, read_of}
 use Rattle.grammar.specs.Tables.{filled, index_table, value_table, by_turns, row_table}
 
 -- the text
@@ -36,7 +36,7 @@ abbrev one_term : ℕ → TermList
 one_term c = record { count = 1; terms = record { variable = 0; coefficient = c over 1 } ∷ [] }
 
 -- the tree that it spells
-pub example_tree : Tree
+unfoldable pub example_tree : Tree
 example_tree =
     record {
       variables = record { count = 1; names = at 14 "x" ∷ [] };
@@ -59,13 +59,6 @@ example_tree =
           };
     }
 
-example-read : read_of example ≡ taken example_tree
-unfolding example_tree read_of comments_end rest stream_at read is_separator is_printable is_digit read_value outcome_of narrowed quotient_of lowest gcd euclid
-example-read = refl
-
-pub example_spelled : SpellsTree example example_tree
-example_spelled = read_sound example example_tree example-read
-
 -- "Index cells: .."; the values; the names
 abbrev pub example_certificate : Certificate
 example_certificate =
@@ -74,10 +67,6 @@ example_certificate =
       values = 1 over 1 ∷ 3 over 1 ∷ 2 over 1 ∷ 1 over 1 ∷ 1 over 1 ∷ 1 over 1 ∷ 1 over 1 ∷ 1 over 2 ∷ [];
       names = ascii "x" ∷ ascii "R1" ∷ ascii "a" ∷ ascii "D1" ∷ [];
     }
-
-pub example-certificate : SpellsCertificate example example_certificate
-unfolding example_tree gather
-example-certificate = record { tree = example_tree; spells = example_spelled; lists = refl }
 
 -- the tables after reading it, of the cells needed: zeros after the cells of the certificate; "Row 0: 46 2 8 1. Row 1:
 -- 93 2 18 6. Row 1,024: 79 1 15 5"
@@ -89,8 +78,3 @@ pub record ExampleTables : Type 0 where
   pub rows_between : slice 8 4096 (row_table row_cells example_tree) ≡ replicate 4088 0
   pub row_1024 : slice 4096 4100 (row_table row_cells example_tree) ≡ 79 ∷ 1 ∷ 15 ∷ 5 ∷ []
   pub rows-after : slice 4100 4352 (row_table row_cells example_tree) ≡ replicate 252 0
-
-pub example_tables : ExampleTables
-unfolding example_tree gather marks index_table value_table row_table
-example_tables =
-    record { index = refl; values = refl; row_0 = refl; row_1 = refl; rows_between = refl; row_1024 = refl; rows-after = refl }

@@ -9,8 +9,6 @@ pub mod Spelling
 pub mod Certificate
 pub mod Reading
 pub mod SymbolAgreement
-pub mod Agreement
-pub mod Unambiguous
 pub mod Layout
 pub mod Texts
 pub mod Tables

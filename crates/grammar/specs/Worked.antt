@@ -378,7 +378,3 @@ cases =
     -- 64 solutions are taken
     ∷ ((ascii "VER 1.0 VAR 0 INT 0 OBJ min 0 CON 0 0 RTP infeas SOL 64\n" ++ repeated 64 (ascii "s 0 ")) & "DER 0 x") gives refuses 8 318 2
     ∷ []
-
-pub cases_hold : Hold cases
-unfolding read_of comments_end rest stream_at read gather marks is_separator is_printable is_digit read_value outcome_of narrowed quotient_of lowest gcd euclid line_of
-cases_hold = refl

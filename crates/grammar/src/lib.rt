@@ -1,10 +1,12 @@
 // What document 01 says of texts that spell certificates is in specs/. The code here is the reasons of refusal, which reading
 // and checking share.
+#![tactic(auto)]
+
 ghost use Rattle.std.specs.Prelude.{◌≡◌};
 ghost use Rattle.grammar.specs.Refusals.{refusal_number};
 
 // The reasons of refusal, in the order of document 01's table, which numbers them from 1.
-#[derive(Drop)]
+#[derive(Clone, Copy)]
 pub enum Refusal {
     TableTooSmall,
     TextTooLong,

@@ -17,9 +17,9 @@ use Rattle.arithmetic.specs.declared.Fraction.{Fraction}
 use Rattle.tables.specs.Cells.{fraction_at}
 use Rattle.tables.specs.Pairs.{pairs_in}
 use Rattle.grammar.specs.Tree.{Term}
-use Rattle.rules.specs.Tests.{fails}
+use Rattle.rules.proofs.Tests.{fails}
 use Rattle.rules.specs.Values.{same_z}
-use Rattle.rules.specs.ValuesLaws.{decides_same_integer}
+use Rattle.rules.proofs.ValuesLaws.{decides_same_integer}
 use Rattle.rules.specs.Rows.{value_in}
 use Rattle.rules.specs.Combinations.{with_coefficient}
 use Rattle.linear.specs.Lists.{a_term, terms_in, TermsBelow}

@@ -8,7 +8,8 @@ use native.Mathlib.Numerals.{add-one}
 use native.Mathlib.Omega.{arith}
 use borrow.Author.Tests.{eqb-true, eqb-false, ne_eqb}
 use lib.Dec.{eqb}
-use Rattle.rules.specs.Tests.{every_below, not-true}
+use Rattle.rules.specs.Tests.{every_below}
+use Rattle.rules.proofs.Tests.{not-true}
 use Rattle.linear.specs.Comparing.{count_below}
 
 -- tests that say the same of each number below n

@@ -9,13 +9,15 @@ use native.Mathlib.Omega.{arith}
 use borrow.Author.Tests.{eq-eqb, ne_eqb, not-false}
 use lib.Dec.{eqb}
 use Rattle.arithmetic.specs.Fraction.{IsFraction, exact}
-use Rattle.arithmetic.specs.Laws.{zero_f, zero_is}
-use Rattle.arithmetic.specs.Meaning.{exact_unique}
+use Rattle.arithmetic.specs.Laws.{zero_f}
+use Rattle.arithmetic.proofs.Laws.{zero_is}
+use Rattle.arithmetic.proofs.Meaning.{exact_unique}
 use Rattle.arithmetic.specs.declared.Fraction.{Fraction}
 use Rattle.grammar.specs.Tree.{Term}
-use Rattle.rules.specs.Tests.{All, all_of, EveryBelow, every_below, not-true, decides_as, decides_and, decides_all, decides_below, decides_equal}
+use Rattle.rules.specs.Tests.{All, all_of, EveryBelow, every_below}
+use Rattle.rules.proofs.Tests.{not-true, decides_as, decides_and, decides_all, decides_below, decides_equal}
 use Rattle.rules.specs.Values.{is_zero, is_same}
-use Rattle.rules.specs.ValuesLaws.{decides_zero}
+use Rattle.rules.proofs.ValuesLaws.{decides_zero}
 use Rattle.rules.specs.Rows.{value_in}
 use Rattle.rules.specs.Sentence.Formed.{Formed}
 use Rattle.senses.proofs.ValuesLaws.{decides_one, same_parts, decides_parts, decides_same_fraction}

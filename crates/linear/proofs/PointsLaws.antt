@@ -8,7 +8,8 @@ use denote.Enum.Declared.{tag_of}
 use lib.IntN.{ℤ}
 use lib.ListN.{get_or}
 use Rattle.arithmetic.specs.Fraction.{IsFraction}
-use Rattle.arithmetic.specs.Laws.{zero_f, zero_is}
+use Rattle.arithmetic.specs.Laws.{zero_f}
+use Rattle.arithmetic.proofs.Laws.{zero_is}
 use Rattle.arithmetic.specs.contracts.Arithmetic.{the_type}
 use Rattle.arithmetic.specs.declared.Arithmetic.{Arithmetic}
 use Rattle.arithmetic.specs.declared.Arithmetic.TheVariants.{Value}

@@ -8,7 +8,8 @@ use Prim.Native.Nat.{ℕ, ◌+◌, ◌≤◌, ◌<◌, min}
 use native.Mathlib.Numerals.{add-one}
 use native.Mathlib.Decide.{dec_lt}
 use native.Mathlib.Omega.{arith}
-use Rattle.rules.specs.Tests.{Decides, EveryBelow, all_of, every_below, fails, failed, decides_below}
+use Rattle.rules.specs.Tests.{Decides, EveryBelow, all_of, every_below}
+use Rattle.rules.proofs.Tests.{fails, failed, decides_below}
 
 -- the tests of those that are left give that of all
 module _ {A : Type 0} (test : A → Bool) {x : A} {left rest : List A} {target : Bool} (g : all_of test left ≡ target) (e : left ≡ x ∷ rest) {r : Bool} (q : r ≡ test x) where

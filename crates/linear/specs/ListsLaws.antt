@@ -10,7 +10,8 @@ use Rattle.std.proofs.Math.Dec.{eqb}
 use Rattle.std.proofs.Math.ListN.{get_or, drop}
 use Rattle.std.proofs.Math.Seq.{drop-cons}
 use Rattle.arithmetic.specs.Fraction.{IsFraction}
-use Rattle.arithmetic.specs.Laws.{zero_f, zero_is}
+use Rattle.arithmetic.specs.Laws.{zero_f}
+use Rattle.arithmetic.proofs.Laws.{zero_is}
 use Rattle.arithmetic.specs.declared.Fraction.{Fraction}
 use Rattle.tables.specs.Cells.{fraction_at}
 use Rattle.tables.specs.Pairs.{pairs_in, listed_in}

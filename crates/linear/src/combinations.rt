@@ -12,7 +12,7 @@ use tables::limits;
 
 // A running combination: the coefficient of each variable, the right side, and whether each product and sum was within the limit.
 // If one was not, the coefficients and the right side say nothing. A denominator 0 says that the variable has no term yet.
-#[derive(Drop)]
+#[derive(Clone, Copy)]
 pub struct Combination {
     pub nums: [i32; 256],
     pub dens: [i32; 256],

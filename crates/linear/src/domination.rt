@@ -18,7 +18,7 @@ use senses::{Sense, values};
 
 // What is told of coefficients that are held against the listed terms of a row: whether they are equal to the row's, and whether
 // all are zero.
-#[derive(Drop)]
+#[derive(Clone, Copy)]
 pub struct Compared {
     pub same: bool,
     pub zero: bool,

@@ -3,6 +3,7 @@
 // of numbers, numerator and denominator by turns. What is tested of one value, a sense or a right side stands in `senses`. No
 // public function asks anything of its caller: what holds of fractions and of variables that have their place in the arrays is
 // said of these.
+#![tactic(auto)]
 
 pub mod combinations;
 pub mod domination;

@@ -10,7 +10,7 @@ use arithmetic::Fraction;
 use tables::limits;
 
 // The coefficient of each variable, or a point's values. A denominator 0 says that nothing is stored yet.
-#[derive(Drop)]
+#[derive(Clone, Copy)]
 pub struct Coefficients {
     pub nums: [i32; 256],
     pub dens: [i32; 256],

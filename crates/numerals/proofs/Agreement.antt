@@ -14,10 +14,11 @@ use lib.IntN.{ℤ, pos, negsuc, nat_abs}
 use lib.ListN.{length}
 use Rattle.integers.specs.Coprime.{coprime_common}
 use Rattle.text.specs.Bytes.{Bytes, is_digit, every, number_after}
-use Rattle.text.specs.BytesLaws.{clash, both}
+use Rattle.text.proofs.BytesLaws.{clash, both}
 use Rattle.arithmetic.specs.Outcome.{Outcome, gives, refuses}
 use Rattle.arithmetic.specs.Quotient.{lowest, ◌≈◌}
-use Rattle.arithmetic.specs.QuotientLaws.{Positive, lowest_positive, lowest_coprime, lowest_equal}
+use Rattle.arithmetic.specs.QuotientLaws.{Positive}
+use Rattle.arithmetic.proofs.QuotientLaws.{lowest_positive, lowest_coprime, lowest_equal}
 use Rattle.arithmetic.specs.Fraction.{limit, IsFraction, exact}
 use Rattle.arithmetic.specs.declared.Fraction.{Fraction}
 use Rattle.numerals.specs.Spelling.{Tail, nothing, point, slash, scaled, Written, is_zero, TailWellFormed, WellFormed, Writes, places, significand, power_of, bottom_scaled, bottom_of, quotient_of, as_fraction, most_digits, whole_digits, decimal_digits, TooManyDigits, most_power, PowerOutside, BeyondLimit, TooWide, SpellsValue, Misspelled}
@@ -65,6 +66,9 @@ power_outside_lem w (scaled d x) e =
     (not-true (every is_zero (w ++ places d)) p.0, ltb-true most_power (nat_abs (power_of w d x)) p.1)
 
 power_inside : (w : Bytes) (tail : Tail) → power_outside w tail ≡ false → PowerOutside w tail → ⊥
+power_inside w nothing e h = elim h [ ]
+power_inside w (point _) e h = elim h [ ]
+power_inside w (slash _) e h = elim h [ ]
 power_inside w (scaled d x) e h = clash (rw h.0 at e) (lt-ltb most_power (nat_abs (power_of w d x)) h.1)
 
 -- ---- the outcome of a written form

@@ -16,7 +16,7 @@ use Rattle.integers.specs.Integers.{ring, *ℤ-neg_l}
 use Rattle.integers.specs.Signs.{with_sign}
 use Rattle.text.specs.Bytes.{Bytes, number_of}
 use Rattle.arithmetic.specs.Quotient.{Quotient, ◌≈◌}
-use Rattle.arithmetic.specs.QuotientLaws.{≈_trans}
+use Rattle.arithmetic.proofs.QuotientLaws.{≈_trans}
 use Rattle.arithmetic.specs.Fraction.{exact}
 use Rattle.arithmetic.specs.declared.Fraction.{Fraction}
 use Rattle.numerals.specs.Spelling.{Exponent, Tail, scaled, Written, drop_leading, significand, trailing_zeros, places, exponent_of, power_of, top_scaled, bottom_scaled, quotient_of, SpellsValue}

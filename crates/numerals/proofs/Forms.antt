@@ -12,7 +12,7 @@ use lib.Dec.{leb, eqb}
 use lib.ListN.{length, take, drop, take-append-drop}
 use lib.Seq.{take-append_seam, drop-append_seam}
 use Rattle.text.specs.Bytes.{Bytes, is_digit, every, leading, is_numeral}
-use Rattle.text.specs.BytesLaws.{clash, both, leading-append}
+use Rattle.text.proofs.BytesLaws.{clash, both, leading-append}
 use Rattle.numerals.specs.Spelling.{Sign, unsigned, plus, minus, Exponent, letter_byte, exponent_sign, exponent_bytes, Tail, nothing, point, slash, scaled, Written, sign_bytes, tail_bytes, is_zero, TailWellFormed, WellFormed, Writes}
 use Rattle.numerals.specs.Reading.{digits_of, after_digits, exponent_with, after_letter, exponent_from, scaled_by, after_point, tail_of, with_tail, unsigned_form, form_of}
 

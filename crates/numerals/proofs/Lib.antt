@@ -6,3 +6,4 @@ pub mod Agreement
 pub mod Numbers
 pub mod Widths
 pub mod AsWritten
+pub mod Cases

@@ -11,7 +11,7 @@ use lib.Dec.{leb}
 use lib.ListN.{length, drop, length-append}
 use lib.Seq.{length-take-le, take_all}
 use Rattle.text.specs.Bytes.{Bytes, is_digit, every, leading, is_numeral, number_after, number_of}
-use Rattle.text.specs.BytesLaws.{both, leading_le, leading-every}
+use Rattle.text.proofs.BytesLaws.{both, leading_le, leading-every}
 use Rattle.numerals.specs.Spelling.{is_zero, drop_leading, drop_trailing, significand, whole_digits, decimal_digits}
 use Rattle.numerals.specs.Reading.{digits_of}
 use Rattle.numerals.proofs.Forms.{by_test, digits_are, numeral_digits}

@@ -13,7 +13,7 @@ use Rattle.integers.specs.Coprime.{coprime_one}
 use Rattle.integers.specs.Signs.{with_sign, nat_abs-with_sign}
 use Rattle.arithmetic.specs.Outcome.{gives, refuses}
 use Rattle.arithmetic.specs.Quotient.{Quotient, ◌≈◌, lowest}
-use Rattle.arithmetic.specs.QuotientLaws.{≈_refl, lowest_is, lowest_cong}
+use Rattle.arithmetic.proofs.QuotientLaws.{≈_refl, lowest_is, lowest_cong}
 use Rattle.arithmetic.specs.Parts.{over}
 use Rattle.arithmetic.specs.Fraction.{limit, within}
 use Rattle.arithmetic.specs.declared.Fraction.{Fraction}

@@ -80,8 +80,3 @@ cases =
     ∷ reads "2.147483647E9" (gives (pos 2147483647 over pos 1))
     ∷ reads "2.147483648E9" (refuses 7)
     ∷ []
-
-pub cases_hold : All cases
-unfolding read_value outcome_of narrowed quotient_of is_digit lowest floor_z ceiling_z is_fraction within on_fractions gcd euclid
-cases_hold =
-    (refl, (refl, (refl, (refl, (refl, (refl, (refl, (refl, (refl, (refl, (refl, (refl, (refl, (refl, (refl, (refl, (refl, (refl, (refl, (refl, (refl, (refl, (refl, tt)))))))))))))))))))))))

@@ -1,2 +1,3 @@
 -- Laws of powers of ten.
 pub mod PowersLaws
+pub mod Cases

@@ -21,7 +21,3 @@ cases =
     ∷ powers 19 0
     ∷ powers 18446744073709551615 0
     ∷ []
-
-pub cases_hold : All cases
-unfolding power_of_ten
-cases_hold = (refl, (refl, (refl, (refl, (refl, tt)))))

@@ -1,4 +1,6 @@
 // Powers of ten, worked out one by one: nothing keeps a list of them.
+#![tactic(auto)]
+
 ghost use Rattle.std.specs.Prelude.{◌≡◌};
 ghost use Rattle.powers.specs.Powers.{power_of_ten};
 

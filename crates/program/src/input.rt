@@ -3,7 +3,7 @@ ghost use Rattle.std.specs.Prelude.{◌≡◌, ◌≤◌, length, take};
 ghost use Rattle.program.specs.Input.{Advanced, Stopped};
 
 // How many bytes came, and what the last read answered: how many came with it, 0 at the end of the input, -1 where it failed.
-#[derive(Drop)]
+#[derive(Clone, Copy)]
 pub struct Input {
     pub came: usize,
     pub last: isize,

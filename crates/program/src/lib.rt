@@ -1,5 +1,7 @@
 // The program: checks the certificate that comes on standard input, and prints one line: `verified`, or `refused C L` with
 // reason C and line L in decimal.
+#![tactic(auto)]
+
 ghost use Rattle.std.specs.Prelude.{◌≡◌, take};
 ghost use Rattle.program.specs.Line.{printed};
 ghost use Rattle.program.specs.Transcript.{InputAnswered};
@@ -12,7 +14,7 @@ pub const ROOM: usize = 32769;
 
 // What a run read, and what it handed over to be written: the bytes that came, at the start of the room; what the last read
 // answered, 0 at the end of the input and -1 where it failed; and the bytes of the line, at the start of `line`.
-#[derive(Drop)]
+#[derive(Clone, Copy)]
 pub struct Transcript {
     pub text: [u8; ROOM],
     pub came: usize,

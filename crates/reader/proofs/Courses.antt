@@ -9,7 +9,7 @@ use lib.Dec.{leb}
 use lib.IntN.{ℤ}
 use lib.ListN.{length}
 use Rattle.text.specs.Bytes.{Bytes}
-use Rattle.text.specs.BytesLaws.{both}
+use Rattle.text.proofs.BytesLaws.{both}
 use Rattle.tables.specs.Limits.{index_cells, value_cells, row_cells, has_cells, most_bytes, is_short}
 use Rattle.grammar.specs.Texts.{read_of}
 use Rattle.reader.specs.Promise.{Course, not_begun, begun, course_of, Begun}

@@ -11,7 +11,7 @@ use lib.ListN.{length, replicate, length-append, length-replicate}
 use borrow.Author.Tests.{leb-true, le-leb}
 use lib.Dec.{leb}
 use Rattle.text.specs.Bytes.{Bytes}
-use Rattle.text.specs.BytesLaws.{clash}
+use Rattle.text.proofs.BytesLaws.{clash}
 use Rattle.text.specs.Lines.{line_of}
 use Rattle.tables.specs.Limits.{index_cells, value_cells, row_cells, has_cells, is_short, most_bytes}
 use Rattle.tables.specs.declared.Header.{Header}
@@ -21,9 +21,10 @@ use Rattle.grammar.specs.Header.{header_of}
 use Rattle.grammar.specs.Layout.{cells, marks}
 use Rattle.grammar.specs.Layout as L
 use Rattle.grammar.specs.Tables.{filled, by_turns, laid, index_table, value_table, row_table}
-use Rattle.grammar.specs.Texts.{SpellsTree, Certificate, certificate_of, ReadText, taken, refused, read_of, read_sound, read_complete, taken_certificate, certificate_once}
-use Rattle.grammar.specs.AllNames.{tree_names, variables_stand}
-use Rattle.grammar.specs.Fits.{fits}
+use Rattle.grammar.specs.Texts.{SpellsTree, Certificate, certificate_of, ReadText, taken, refused, read_of}
+use Rattle.grammar.proofs.Texts.{read_sound, read_complete, taken_certificate, certificate_once}
+use Rattle.grammar.proofs.AllNames.{tree_names, variables_stand}
+use Rattle.grammar.proofs.Fits.{fits}
 use Rattle.grammar.specs.Refusals.{refusal_number}
 use Rattle.grammar.specs.declared.Refusal.{Refusal}
 use Rattle.grammar.specs.declared.Refusal.TheVariants.{TableTooSmall, TextTooLong}

@@ -17,8 +17,9 @@ use Rattle.grammar.specs.Format.{Format, then}
 use Rattle.grammar.specs.Certificate.{row_names, version, variables, integers, objective_section, constraints, certificate}
 use Rattle.grammar.specs.Header.{header_of}
 use Rattle.grammar.specs.Layout.{gather, cells, values, marks}
-use Rattle.grammar.specs.Contents.{integers_cells, objective_cells, constraints_cells, term_values, constraints_values, variables_lay, integers_lay, objective_lay, constraints_lay}
-use Rattle.grammar.specs.Agreement.{sound}
+use Rattle.grammar.specs.Contents.{integers_cells, objective_cells, constraints_cells, term_values, constraints_values}
+use Rattle.grammar.proofs.Contents.{variables_lay, integers_lay, objective_lay, constraints_lay}
+use Rattle.grammar.proofs.Agreement.{sound}
 use Rattle.symbol_reader.specs.Steps.{State, Went, any}
 use Rattle.symbol_reader.specs.Follows.{Always, Follows, below}
 use Rattle.symbol_reader.specs.Leaves.{names_in}

@@ -18,10 +18,13 @@ use Rattle.grammar.specs.Layout.{Mark}
 use Rattle.grammar.specs.Tables.{by_turns, index_table, value_table, row_table}
 use Rattle.grammar.specs.Texts.{SpellsTree}
 use Rattle.grammar.specs.Contents.{row_index_cells, row_values, side_values, term_cells, term_values}
-use Rattle.grammar.specs.Names.{names_stand}
-use Rattle.grammar.specs.Positions.{StandsAt, stands_here, stands_next, stands_slice}
-use Rattle.grammar.specs.Ranges.{rows_of, tree_in_range}
-use Rattle.grammar.specs.Rows.{Kept, row_kept, solution-kept, index_stands, values_stand, RowAt, row_found}
+use Rattle.grammar.proofs.Names.{names_stand}
+use Rattle.grammar.specs.Positions.{StandsAt}
+use Rattle.grammar.proofs.Positions.{stands_here, stands_next, stands_slice}
+use Rattle.grammar.specs.Ranges.{rows_of}
+use Rattle.grammar.proofs.Ranges.{tree_in_range}
+use Rattle.grammar.specs.Rows.{Kept, RowAt}
+use Rattle.grammar.proofs.Rows.{row_kept, solution-kept, index_stands, values_stand, row_found}
 use Rattle.reader.specs.Holds.{row_cell, value_at, NameHeld, RowHeld, SolutionHeld}
 
 module _ {text : Bytes} {tree : Tree} (s : SpellsTree text tree) (i v r : ℕ) (enough : row_cells ≤ r) where

@@ -7,7 +7,7 @@ use native.Mathlib.Omega.{arith}
 use lib.IntN.{ℤ}
 use lib.ListN.{length}
 use Rattle.text.specs.Bytes.{Bytes}
-use Rattle.text.specs.CommentsLaws.{comments_inside}
+use Rattle.text.proofs.CommentsLaws.{comments_inside}
 use Rattle.text.specs.Tokens.{Stream, end, token, rest}
 use Rattle.tables.specs.Limits.{index_cells, value_cells, row_cells, most_bytes}
 use Rattle.tables.specs.declared.Header.{Header}

@@ -21,7 +21,7 @@ use text::Scan;
 
 // What reading RTP, SOL and DER hands back: the places of the words `RTP` and `DER`, how many solutions and how many rows in all there
 // are, and the answer.
-#[derive(Drop)]
+#[derive(Clone, Copy)]
 pub(crate) struct Proof {
     pub(crate) relation: usize,
     pub(crate) solutions: usize,
@@ -74,7 +74,7 @@ fn start(text: &[u8]) -> Step
 }
 
 // What reading a document hands back: its header, and the answer.
-#[derive(Drop)]
+#[derive(Clone, Copy)]
 pub(crate) struct Document {
     pub(crate) header: Header,
     pub(crate) answer: Step,

@@ -1,4 +1,6 @@
 // Read a certificate: a text and three lent tables to filled tables and a header, or a refusal.
+#![tactic(auto)]
+
 ghost use Rattle.reader.specs.Promise.{CertificateRead};
 
 use grammar::Refusal;
@@ -8,7 +10,7 @@ use tables::Header;
 mod documents;
 
 // What reading a certificate answers: it was taken, and its counts and places are these; or it was refused, for a reason and at a line.
-#[derive(Drop)]
+#[derive(Clone, Copy)]
 pub enum Reading {
     Taken(Header),
     Refused(Refusal, usize),

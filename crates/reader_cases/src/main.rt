@@ -1,6 +1,8 @@
 // Reads the certificates of standard input, which are on either side of each rule of reading, and writes what Read a certificate
 // answers; of a certificate of 1,024 rows also cells of the tables. Then 01's example with its tables, and tables and a text of
 // other sizes.
+#![tactic(auto)]
+
 ghost use Rattle.std.specs.Prelude.{◌≤◌, length};
 
 use reader::Reading;

@@ -17,14 +17,4 @@ pub mod Claims
 pub mod Check
 pub mod Meets
 pub mod Worked
-pub mod ValuesLaws
-pub mod RowsLaws
-pub mod SolutionsLaws
-pub mod DominationLaws
-pub mod CombinationsLaws
-pub mod RoundingLaws
-pub mod SplitsLaws
-pub mod AssumptionsLaws
-pub mod ClaimsLaws
-pub mod Agreement
 pub mod Sentence

@@ -2,14 +2,10 @@
 -- read; the proof: senses, fractions as whole numbers, left sides, denominators, each rule, all rows, the claim, certificates as
 -- texts spell them; and three certificates, in whole numbers.
 pub mod Points
-pub mod Verified
 pub mod Formed
 pub mod Senses
 pub mod Scale
 pub mod Lines
-pub mod Denominators
 pub mod Sound
 pub mod Derive
-pub mod Meaning
-pub mod Spelled
 pub mod Worked

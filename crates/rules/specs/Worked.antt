@@ -598,7 +598,3 @@ cases =
     ∷ refuses 17 10 (one_integer "OBJ min 1 0 1\nCON 1 0 R1 G 1 1 0 1\nRTP range 1 inf\nSOL 0\nDER 2\nA1 G 1 1 0 1 { asm } -1\nD1 G 1 OBJ { lin 2 1 1/2 0 1/2 } -1\n")
     ∷ refuses 17 10 (one_integer "OBJ min 1 0 1\nCON 1 0 R1 G 1 1 0 1\nRTP range 1 inf\nSOL 0\nDER 2\nA1 G 1 1 0 1 { asm } -1\nD1 G 1 OBJ { rnd 2 0 1/2 1 1/2 } -1\n")
     ∷ []
-
-pub worked : map (λ (c : Case). answer c.text) cases ≡ map (λ (c : Case). c.expected) cases
-unfolding cases read_of comments_end rest stream_at read is_separator is_printable is_digit read_value outcome_of narrowed quotient_of lowest floor_z ceiling_z gcd euclid is_fraction on_fractions within order line_of check_of value_in constraint_of objective_with entries entry_at left_side check_row check_solution objectives_of is_absurd same_coefficients dominates is_suitable sense_of next_combination combine suitable_combination is_integral can_be_rounded rounded is_split is_proper_split sets_of assumptions_of check_lin check_rnd check_uns check_derivation is_proved
-worked = refl

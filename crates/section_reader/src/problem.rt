@@ -87,7 +87,7 @@ pub fn read_integers(text: &[u8], s: Step, n: usize, index: &mut [u16]) -> Step
 }
 
 // What reading the objective's section hands back: whether it is maximized, where its terms stand, and the answer.
-#[derive(Drop)]
+#[derive(Clone, Copy)]
 pub struct ObjectiveAnswer {
     pub maximize: bool,
     pub terms: Pairs,

@@ -121,7 +121,7 @@ fn rows_left(m: usize) -> usize
 }
 
 // What reading the section of derivations hands back: the place of its word, and the answer.
-#[derive(Drop)]
+#[derive(Clone, Copy)]
 pub struct DerivationsAnswer {
     pub place: usize,
     pub answer: Step,

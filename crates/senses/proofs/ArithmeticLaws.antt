@@ -10,9 +10,10 @@ use Rattle.arithmetic.specs.contracts.Arithmetic.{the_type}
 use Rattle.arithmetic.specs.declared.Arithmetic.{Arithmetic}
 use Rattle.arithmetic.specs.declared.Arithmetic.TheVariants.{Value, NotAFraction, TooWide}
 use Rattle.arithmetic.specs.declared.Fraction.{Fraction}
-use Rattle.rules.specs.Result.{Result, done, refused, bind, gives_bind}
+use Rattle.rules.specs.Result.{Result, done, refused, bind}
+use Rattle.rules.proofs.Result.{gives_bind}
 use Rattle.rules.specs.Values.{within12, product_at, sum_at}
-use Rattle.rules.specs.ValuesLaws.{gives_product, gives_sum}
+use Rattle.rules.proofs.ValuesLaws.{gives_product, gives_sum}
 
 -- the answer of a product or a sum, at a place
 abbrev pub says : ℕ → Arithmetic → Result Fraction

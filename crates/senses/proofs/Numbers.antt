@@ -16,9 +16,9 @@ use Rattle.integers.specs.Integers.{*ℤ-pos-one}
 use Rattle.arithmetic.specs.Outcome.{Outcome}
 use Rattle.arithmetic.specs.Fraction.{Order, comparison_says}
 use Rattle.arithmetic.specs.declared.Comparison.{Comparison}
-use Rattle.rules.specs.Tests.{fails}
+use Rattle.rules.proofs.Tests.{fails}
 use Rattle.rules.specs.Values.{same_z, passes}
-use Rattle.rules.specs.ValuesLaws.{decides_same_integer}
+use Rattle.rules.proofs.ValuesLaws.{decides_same_integer}
 
 -- ---- numbers are the same exactly if their bits are
 

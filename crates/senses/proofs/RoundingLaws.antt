@@ -11,7 +11,7 @@ use Rattle.integers.specs.Signs.{nat_abs-neg}
 use Rattle.arithmetic.specs.Outcome.{gives, refuses}
 use Rattle.arithmetic.specs.Quotient.{floor_z, ceiling_z, floor_q, ceiling_q}
 use Rattle.arithmetic.specs.Fraction.{limit, IsFraction, exact, on_fractions, is_fraction}
-use Rattle.arithmetic.specs.Meaning.{is_fraction_lem}
+use Rattle.arithmetic.proofs.Meaning.{is_fraction_lem}
 use Rattle.arithmetic.specs.declared.Fraction.{Fraction}
 use Rattle.grammar.specs.Tree.{Sense, equal, at_most, at_least}
 use Rattle.rules.specs.Values.{whole_f}

@@ -4,12 +4,13 @@ use mathlib.Core.Path.{◌≡◌, refl, sym, ap, ap₂, subst}
 use mathlib.Core.Bool.{Bool, true, false, ◌&&◌}
 use lib.IntN.{ℤ}
 use Rattle.arithmetic.specs.Quotient.{◌≈◌}
-use Rattle.arithmetic.specs.QuotientLaws.{≈_refl}
+use Rattle.arithmetic.proofs.QuotientLaws.{≈_refl}
 use Rattle.arithmetic.specs.Fraction.{IsFraction, exact}
 use Rattle.arithmetic.specs.declared.Fraction.{Fraction}
-use Rattle.rules.specs.Tests.{Decides, not-true, fails, decides_as, decides_and}
+use Rattle.rules.specs.Tests.{Decides}
+use Rattle.rules.proofs.Tests.{not-true, fails, decides_as, decides_and}
 use Rattle.rules.specs.Values.{same_z, is_same}
-use Rattle.rules.specs.ValuesLaws.{decides_same_integer, decides_same, same-one}
+use Rattle.rules.proofs.ValuesLaws.{decides_same_integer, decides_same, same-one}
 
 -- two tests that decide the same
 pub decides_one : {P : Type 0} (a b : Bool) → Decides a P → Decides b P → a ≡ b

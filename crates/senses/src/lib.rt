@@ -1,5 +1,7 @@
 // Senses, and the tests of single values and right sides under them. Nothing here knows a list or an array, and no public
 // function asks anything of its caller: what holds of fractions is said of these.
+#![tactic(auto)]
+
 ghost use Rattle.std.specs.Prelude.{◌≡◌};
 ghost use Rattle.arithmetic.specs.Fraction.{IsFraction};
 ghost use Rattle.grammar.specs.Certificate.{sense_cell};
@@ -17,7 +19,7 @@ pub mod signs;
 pub mod values;
 
 // `E`, `L`, `G`.
-#[derive(Drop)]
+#[derive(Clone, Copy)]
 pub enum Sense {
     Equal,
     AtMost,

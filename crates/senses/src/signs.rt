@@ -9,7 +9,7 @@ use crate::Sense;
 use arithmetic::Fraction;
 
 // Whether no multiplier times its row's sign is negative, and whether none is positive.
-#[derive(Drop)]
+#[derive(Clone, Copy)]
 pub struct Signs {
     pub nonnegative: bool,
     pub nonpositive: bool,

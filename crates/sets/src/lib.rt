@@ -1,5 +1,7 @@
 // Sets of numbers below 64 as masks, a bit for each number. Each contract says which numbers the result has; a mask is its
 // bits (specs/SetsLaws.antt), so that it says the whole result.
+#![tactic(auto)]
+
 ghost use Rattle.std.specs.Prelude.{◌≡◌, true, ◌&&◌, ◌↔◌, ℕ, ◌-◌, max, eqb, ltb};
 ghost use Rattle.sets.specs.Sets.{bit, one};
 

@@ -16,7 +16,7 @@ use Rattle.grammar.specs.Tree.{Term, Row, Solution, Tree}
 use Rattle.rules.specs.Result.{Result, done, refused, bind, require}
 use Rattle.rules.specs.Rows.{terms_of}
 use Rattle.rules.specs.Solutions.{left_side, holds, check_row}
-use Rattle.rules.specs.SolutionsLaws.{gives_left-side, left-side_fraction}
+use Rattle.rules.proofs.SolutionsLaws.{gives_left-side, left-side_fraction}
 use Rattle.senses.specs.Senses.{sense_is}
 use Rattle.senses.proofs.ArithmeticLaws.{says, is_refused}
 use Rattle.encoding.specs.Rows.{RowIs}

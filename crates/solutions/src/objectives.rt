@@ -16,7 +16,7 @@ use senses::Sense;
 use tables::Header;
 
 // The best objective so far, if there is any, and whether one of them reaches the bound.
-#[derive(Drop)]
+#[derive(Clone, Copy)]
 pub struct Best {
     pub any: bool,
     pub value: Fraction,
@@ -24,7 +24,7 @@ pub struct Best {
 }
 
 // What comes of all objectives, or the place of the name of the first solution whose objective is too wide.
-#[derive(Drop)]
+#[derive(Clone, Copy)]
 pub enum Objectives {
     Found(Best),
     TooWide(usize),

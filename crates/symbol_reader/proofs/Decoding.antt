@@ -10,7 +10,7 @@ use lib.Dec.{ltb, eqb}
 use lib.ListN.{length}
 use lib.Seq.{length-slice}
 use Rattle.text.specs.Bytes.{Bytes, same, every, is_digit, is_numeral, number_of}
-use Rattle.text.specs.BytesLaws.{clash}
+use Rattle.text.proofs.BytesLaws.{clash}
 use Rattle.text.specs.Tokens.{Token}
 use Rattle.arithmetic.specs.Outcome.{Outcome, gives, refuses}
 use Rattle.arithmetic.specs.declared.Fraction.{Fraction}

@@ -11,7 +11,7 @@ use lib.Dec.{eqb, leb}
 use lib.ListN.{length, take, drop, length-drop, take-append-drop}
 use lib.Seq.{slice, take_all, length-take-le}
 use Rattle.text.specs.Bytes.{Bytes, same}
-use Rattle.text.specs.BytesLaws.{same_true, clash}
+use Rattle.text.proofs.BytesLaws.{same_true, clash}
 use Rattle.grammar.specs.Reading.{is_among}
 use Rattle.symbol_reader.specs.Leaves.{names_in, fingerprint_after, fingerprint_of}
 use Rattle.symbol_reader.specs.Marks.{marked, Fingerprinted}

@@ -12,7 +12,7 @@ use lib.Seq.{slice, sets, length-sets}
 use Rattle.text.specs.Bytes.{Bytes}
 use Rattle.text.specs.Tokens.{Token, Stream, end, rest}
 use Rattle.text.specs.Scans.{Found, scan_of}
-use Rattle.text.specs.ScansLaws.{found, ended}
+use Rattle.text.proofs.ScansLaws.{found, ended}
 use Rattle.text.specs.declared.Scan.{Scan}
 use Rattle.text.specs.declared.Scan.TheVariants as scan
 use Rattle.arithmetic.specs.Outcome.{gives, refuses}

@@ -9,7 +9,7 @@ use lib.IntN.{ℤ}
 use lib.ListN.{length, take, drop, set, length-append}
 use lib.Seq.{slice, sets, sets-eq, length-sets, length-take-le, drop_at, take-append_seam}
 use Rattle.text.specs.Bytes.{Bytes}
-use Rattle.text.specs.BytesLaws.{slice_take}
+use Rattle.text.proofs.BytesLaws.{slice_take}
 use Rattle.arithmetic.specs.declared.Fraction.{Fraction}
 use Rattle.grammar.specs.Layout.{gather_items, Mark, marks_items}
 use Rattle.grammar.specs.Tables.{by_turns, row_of, laid}

@@ -2,6 +2,8 @@
 // reads the next token as one symbol of the grammar and stores what the symbol takes of the tables. The contract is `Follows`
 // (specs/Follows.antt), where the tables have room; a second one, `Refuses`, says that a token for which a table has no room is
 // refused, and nothing is stored. A reader takes only the tables that it writes.
+#![tactic(auto)]
+
 ghost use Rattle.std.specs.Prelude.{◌≡◌};
 ghost use Rattle.symbol_reader.specs.Follows.{carried};
 
@@ -16,7 +18,7 @@ pub mod values;
 pub mod words;
 
 // Where the reading stands: a place in the text, and how many index cells and values are written.
-#[derive(Drop)]
+#[derive(Clone, Copy)]
 pub struct Cursor {
     pub at: usize,
     pub cells: usize,
@@ -24,7 +26,7 @@ pub struct Cursor {
 }
 
 // A step of the reading: a number that was read, and where the reading goes on; or a refusal with its place.
-#[derive(Drop)]
+#[derive(Clone, Copy)]
 pub enum Step {
     Next(usize, Cursor),
     Stop(Refusal, usize),

@@ -17,7 +17,7 @@ use tables::limits;
 pub const INDEX_WORDS: usize = 16;
 
 // What the bytes of a token spell as a number: no more matters of it than the largest number that a cell holds.
-#[derive(Drop)]
+#[derive(Clone, Copy)]
 enum Numeral {
     Number(u16),
     NotDigits,

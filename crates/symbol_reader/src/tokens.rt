@@ -7,14 +7,14 @@ use grammar::Refusal;
 use text::Scan;
 
 // Where a token stands, from .. to; no byte where none is left.
-#[derive(Drop)]
+#[derive(Clone, Copy)]
 pub(crate) struct Span {
     pub(crate) from: usize,
     pub(crate) to: usize,
 }
 
 // What a token means where a symbol is due: a number for what is kept of it, or its refusal.
-#[derive(Drop)]
+#[derive(Clone, Copy)]
 pub(crate) enum Meaning {
     Number(u16),
     Refused(Refusal),

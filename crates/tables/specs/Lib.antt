@@ -4,4 +4,3 @@ pub mod Limits
 pub mod Words
 pub mod Cells
 pub mod Pairs
-pub mod CellsLaws

@@ -1,6 +1,8 @@
 // The three tables that a caller lends (document 01, "Tables lent by the caller"): what is stored in them, fetched from them and
 // cleared, and the parts of them that lists are. Tables are of any size, and no function asks anything of its caller: what a
 // table does not have is fetched as 0 or as an empty part, and a store there changes nothing.
+#![tactic(auto)]
+
 ghost use Rattle.std.specs.Prelude.{◌≡◌, ◌+◌, ◌*◌, pos, length, get_or, set, replicate};
 ghost use Rattle.tables.specs.Limits.{most_rows, has_cells, is_short};
 ghost use Rattle.tables.specs.Cells.{CellIs, fraction_at, EntryIs, with_cell, with_value, with_entry, part};
@@ -13,7 +15,7 @@ pub mod words;
 
 // The row table's cells of one name. Of a row: "byte place of the name, its length, index cell where its sense stands, number of
 // its right-hand value". Of a solution: "name place, length, cell of its count, number of values read before it".
-#[derive(Drop)]
+#[derive(Clone, Copy)]
 pub struct Entry {
     pub place: usize,
     pub size: usize,
@@ -22,7 +24,7 @@ pub struct Entry {
 }
 
 // Where a list of pairs stands: the index cell of its first index, the number of its first value, and how many pairs it has.
-#[derive(Drop)]
+#[derive(Clone, Copy)]
 pub struct Pairs {
     pub cell: usize,
     pub number: usize,
@@ -33,7 +35,7 @@ pub struct Pairs {
 // the objective is maximized, and where its terms stand; how many rows are given, and how many there are with the derived ones;
 // how many solutions there are; the claim's first index cell, and the number of the first value of its ends; the byte places of
 // the words `RTP` and `DER`.
-#[derive(Drop)]
+#[derive(Clone, Copy)]
 pub struct Header {
     pub variables: usize,
     pub integers: usize,

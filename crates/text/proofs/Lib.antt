@@ -5,3 +5,8 @@ pub mod Turns
 pub mod Parts
 pub mod Scanning
 pub mod Promised
+pub mod BytesLaws
+pub mod CommentsLaws
+pub mod ScansLaws
+pub mod ShownLaws
+pub mod TokensLaws

@@ -9,7 +9,7 @@ use lib.ListN.{length, take, drop, length-take}
 use lib.Seq.{slice, take-nil, drop-nil}
 use denote.Ref.{Bor}
 use Rattle.text.specs.Bytes.{Bytes}
-use Rattle.text.specs.BytesLaws.{slice_take}
+use Rattle.text.proofs.BytesLaws.{slice_take}
 use Rattle.text.specs.Shown.{IsPart, part_from, part_to}
 
 -- so many bytes from the start, as far as the text goes

@@ -9,15 +9,15 @@ use lib.ListN.{length, drop}
 use lib.Seq.{slice, length-slice}
 use denote.Ref.{Bor}
 use Rattle.text.specs.Bytes.{Bytes, same}
-use Rattle.text.specs.BytesLaws.{same_refl, same_true}
+use Rattle.text.proofs.BytesLaws.{same_refl, same_true}
 use Rattle.text.specs.Comments.{comments_end}
-use Rattle.text.specs.CommentsLaws.{comments_end_at}
+use Rattle.text.proofs.CommentsLaws.{comments_end_at}
 use Rattle.text.specs.Tokens.{FirstToken, HasTokens, FirstGoes, Stream, listed, rest}
-use Rattle.text.specs.TokensLaws.{first_stream, has_tokens, rest_is}
+use Rattle.text.proofs.TokensLaws.{first_stream, has_tokens, rest_is}
 use Rattle.text.specs.Scans.{scan_of}
-use Rattle.text.specs.ScansLaws.{found, ended}
+use Rattle.text.proofs.ScansLaws.{found, ended}
 use Rattle.text.specs.Shown.{begins_token, shown_from, shown_to, shown_at, IsPart, part_from, part_to}
-use Rattle.text.specs.ShownLaws.{begun_rest, from_none, to_none, text_token_shown}
+use Rattle.text.proofs.ShownLaws.{begun_rest, from_none, to_none, text_token_shown}
 use Rattle.text.specs.Promises.{CommentsPassed, TokenScanned, PartTaken, WordCompared, TokenShown}
 use Rattle.text.proofs.Parts.{slice_least}
 use Rattle.text.specs.declared.Scan.{Scan}

@@ -6,7 +6,7 @@ use lib.ListN.{length, drop}
 use Rattle.text.specs.Bytes.{Bytes, is_separator, leading}
 use Rattle.text.specs.Tokens.{is_token_byte, rest, token_end}
 use Rattle.text.specs.Scans.{scan_of, Found}
-use Rattle.text.specs.ScansLaws.{found_first, none_left, scan_found}
+use Rattle.text.proofs.ScansLaws.{found_first, none_left, scan_found}
 use Rattle.text.specs.declared.Scan.TheVariants as scan
 
 module _ (text : Bytes) (at : ℕ) {from : ℕ} (is : from ≡ at + leading is_separator (drop at text)) where

@@ -12,9 +12,9 @@ use lib.ListN.{length, take, drop, get_or, drop_of_length-le, length-drop, take-
 use lib.Seq.{take-suc, drop-drop, length-take-le}
 use borrow.Author.Tests.{eq-eqb, ne_eqb}
 use Rattle.text.specs.Bytes.{Bytes, leading, same}
-use Rattle.text.specs.BytesLaws.{uncons, leading_le, leading-every, leading_stop}
+use Rattle.text.proofs.BytesLaws.{uncons, leading_le, leading-every, leading_stop}
 use Rattle.text.specs.Comments.{is_line_feed, is_line_byte, comment_bytes, comments_end}
-use Rattle.text.specs.CommentsLaws.{within-line}
+use Rattle.text.proofs.CommentsLaws.{within-line}
 use Rattle.text.specs.Lines.{line_feeds, line_of}
 use Rattle.text.proofs.Parts.{take_least}
 

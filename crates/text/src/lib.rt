@@ -1,5 +1,7 @@
 // Tokens of a text, its comments and lines, and Show a token. A text is any bytes; a place is a byte's index in it, or any
 // number past its end.
+#![tactic(auto)]
+
 ghost use Rattle.std.specs.Prelude.{◌≡◌, ◌+◌, min, drop};
 ghost use Rattle.std.proofs.Math.Seq.{slice};
 ghost use Rattle.text.specs.Bytes.{is_separator, is_digit, leading, same};
@@ -9,14 +11,14 @@ ghost use Rattle.text.specs.Scans.{is_of};
 ghost use Rattle.text.specs.Promises.{CommentsPassed, TokenScanned, PartTaken, WordCompared, TokenShown};
 
 // The first token from a place on: the place of its first byte and the place after its last; or the end of the text.
-#[derive(Drop)]
+#[derive(Clone, Copy)]
 pub enum Scan {
     Token(usize, usize),
     End,
 }
 
 // Bytes that stand together: separators, bytes of a token, bytes of a line.
-#[derive(Drop)]
+#[derive(Clone, Copy)]
 enum Kind {
     Gap,
     Token,

@@ -1,5 +1,7 @@
 // Runs the functions of `text` on texts on either side of each rule, and writes what they answer. A byte outside 33 to 126
 // is written as its number in angle brackets.
+#![tactic(auto)]
+
 use text::Scan;
 
 fn number(n: usize) {

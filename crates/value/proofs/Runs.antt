@@ -10,7 +10,7 @@ use native.Mathlib.Omega.{arith}
 use lib.ListN.{length, get_or, drop, length-drop, drop_of_length-le}
 use lib.Seq.{append_snoc, drop-drop}
 use Rattle.text.specs.Bytes.{Bytes, is_digit, every, leading}
-use Rattle.text.specs.BytesLaws.{clash, both, every_append, leading_le, leading-every, uncons}
+use Rattle.text.proofs.BytesLaws.{clash, both, every_append, leading_le, leading-every, uncons}
 use Rattle.numerals.specs.Spelling.{is_zero, drop_leading}
 use Rattle.numerals.specs.Reading.{digits_of}
 use Rattle.numerals.proofs.Forms.{by_test, Stops, digits_lead, digits_are}

@@ -11,7 +11,7 @@ use lib.Dec.{eqb}
 use lib.ListN.{length, get_or, take, drop, drop_of_length-le}
 use lib.Seq.{drop-drop}
 use Rattle.text.specs.Bytes.{Bytes, is_digit, leading, is_numeral}
-use Rattle.text.specs.BytesLaws.{uncons, leading-every, leading_stop}
+use Rattle.text.proofs.BytesLaws.{uncons, leading-every, leading_stop}
 use Rattle.arithmetic.specs.Outcome.{refuses}
 use Rattle.numerals.specs.Spelling.{Tail, nothing, point, places}
 use Rattle.numerals.specs.Reading.{digits_of, after_digits, after_letter, exponent_from, scaled_by, after_point, tail_of, with_tail, unsigned_form, form_of, outcome_of, read_value}

@@ -1,5 +1,7 @@
 // Read one value: a token's bytes to a fraction, or the refusal of that token. No public function asks anything of its
 // caller: any bytes are taken, of any length.
+#![tactic(auto)]
+
 ghost use Rattle.std.specs.Prelude.{◌≡◌, Bool, false, ◌∷◌, ◌+◌, ◌*◌, ◌^◌, ◌≤◌, ◌<◌, ℤ, length, get_or, drop};
 ghost use Rattle.integers.specs.Signs.{with_sign};
 ghost use Rattle.text.specs.Bytes.{is_digit, leading};
@@ -19,7 +21,7 @@ use exponents::{Exponent, Power};
 const MOST_DIGITS: usize = 18;
 
 // The answer of reading one value: 01's refusals 4 and 7 are NotAValue and TooWide.
-#[derive(Drop)]
+#[derive(Clone, Copy)]
 pub enum ValueAnswer {
     Value(Fraction),
     NotAValue,
@@ -28,7 +30,7 @@ pub enum ValueAnswer {
 
 // Digits, as they are read one by one: the number that they spell, how many of them count, and the zeros after these, which
 // count once another digit follows. Where more than 18 count, the number is 0.
-#[derive(Drop)]
+#[derive(Clone, Copy)]
 struct Digits {
     number: u64,
     count: usize,
@@ -100,7 +102,7 @@ impl Digits {
 }
 
 // A run of digits that were read, and the place after them.
-#[derive(Drop)]
+#[derive(Clone, Copy)]
 struct Run {
     digits: Digits,
     next: usize,
@@ -173,7 +175,7 @@ fn read_on(token: &[u8], from: usize, whole: Digits) -> Digits
 }
 
 // The digits of a part that runs to the end of its token, or its refusal: it has no digit, or another byte.
-#[derive(Drop)]
+#[derive(Clone, Copy)]
 enum Part {
     Digits(Digits),
     NotDigits,
@@ -196,7 +198,7 @@ fn ended(token: &[u8], from: usize, run: Run) -> Part
 }
 
 // A value as a quotient that is not brought to lowest terms, without its sign; or its refusal.
-#[derive(Drop)]
+#[derive(Clone, Copy)]
 enum Ratio {
     Of(u64, u64),
     NotAValue,

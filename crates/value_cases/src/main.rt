@@ -1,5 +1,7 @@
 // Runs Read one value on the lines of standard input, on tokens that no line can hold and on long ones. Writes a line for
 // each: the token or its description, then the fraction or the refusal. Then works out powers of ten, a line each.
+#![tactic(auto)]
+
 ghost use Rattle.std.specs.Prelude.{◌≤◌, length};
 
 use arithmetic::Fraction;

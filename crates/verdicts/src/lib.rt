@@ -1,8 +1,10 @@
 // What a test of a certificate that was read answers.
+#![tactic(auto)]
+
 use grammar::Refusal;
 
 // Nothing to refuse, or the first reason and the place of the name or word that it is refused at.
-#[derive(Drop)]
+#[derive(Clone, Copy)]
 pub enum Verdict {
     Fine,
     Refused(Refusal, usize),

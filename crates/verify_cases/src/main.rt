@@ -1,6 +1,8 @@
 // Verifies the certificates of standard input, which are on either side of each rule, and writes the answers. Most are worked cases
 // of rules' Worked.antt, where the same answers are proved. Then shows cells of the tables afterwards, and tables and a text of
 // other sizes.
+#![tactic(auto)]
+
 ghost use Rattle.std.specs.Prelude.{◌≤◌, length};
 
 use checker::Verification;

@@ -9,11 +9,11 @@ use native.Mathlib.Omega.{arith}
 use lib.ListN.{length, drop, length-drop}
 use lib.Seq.{slice, slice_empty, length-slice}
 use Rattle.text.specs.Bytes.{Bytes}
-use Rattle.text.specs.BytesLaws.{clash, leading_le}
+use Rattle.text.proofs.BytesLaws.{clash, leading_le}
 use Rattle.text.specs.Tokens.{Token, TextHasTokens, is_token_byte, token_end}
-use Rattle.text.specs.ScansLaws.{token_some}
+use Rattle.text.proofs.ScansLaws.{token_some}
 use Rattle.text.specs.Shown.{begins_token, shown_from, shown_to, shown_at}
-use Rattle.text.specs.ShownLaws.{from_begun, to_begun, begun_inside, begun_byte, shown_none, text_token_shown}
+use Rattle.text.proofs.ShownLaws.{from_begun, to_begun, begun_inside, begun_byte, shown_none, text_token_shown}
 use Rattle.vipr_c.specs.Shown.{TokenMeasured}
 
 module _ (text : Bytes) (place : ℕ) where

@@ -1,5 +1,7 @@
 // Read one value, Read a certificate, Verify a certificate and Show a token for C: what is returned is 0 or 01's number of the
 // refusal, results go through pointers, and the tables are the caller's. include/vipr.h declares the functions.
+#![tactic(auto)]
+
 ghost use Rattle.std.specs.Prelude.{◌≡◌, ◌≤◌};
 ghost use Rattle.fraction_c.specs.Stored.{pair};
 ghost use Rattle.grammar.specs.Refusals.{refusal_number};

@@ -5,8 +5,8 @@ use Rattle.arithmetic.proofs.add_product_any.Statement.{statement}
 use Rattle.arithmetic.proofs.add_product_any.Tie as tie
 use Rattle.arithmetic.specs.Outcome.{Outcome, gives}
 use Rattle.arithmetic.specs.Fraction.{product_of, sum_of, after, arithmetic_says}
-use Rattle.arithmetic.specs.Meaning.{product_then_sum}
-use Rattle.arithmetic.specs.Laws.{product_is}
+use Rattle.arithmetic.proofs.Meaning.{product_then_sum}
+use Rattle.arithmetic.proofs.Laws.{product_is}
 use Rattle.arithmetic.specs.declared.Fraction.{Fraction}
 use Rattle.arithmetic.proofs.Ways.{stays}
 

@@ -7,7 +7,7 @@ use Rattle.arithmetic.proofs.ceiling.Statement.{statement}
 use Rattle.arithmetic.proofs.ceiling.Tie as tie
 use Rattle.integers.proofs.Casts.{back_of}
 use Rattle.arithmetic.specs.Quotient.{ceiling_z}
-use Rattle.arithmetic.specs.Meaning.{is_fraction_lem}
+use Rattle.arithmetic.proofs.Meaning.{is_fraction_lem}
 use Rattle.arithmetic.specs.Parts.{is_shaped}
 use Rattle.arithmetic.proofs.Ways.{Told, rounded, shaped_is, is_shaped_lem}
 

@@ -8,7 +8,7 @@ use mir.Syntax.{w64}
 use Rattle.integers.proofs.Casts.{back_at}
 use Rattle.arithmetic.specs.Outcome.{gives}
 use Rattle.arithmetic.specs.Fraction.{order}
-use Rattle.arithmetic.specs.Meaning.{are_both}
+use Rattle.arithmetic.proofs.Meaning.{are_both}
 use Rattle.arithmetic.proofs.Ways.{on_fractions_lem}
 
 returns : tie.Need-returns

@@ -4,7 +4,7 @@ use native.Mathlib.Nat.{mul-pos}
 use borrow.Author.Rules.{rules}
 use Rattle.arithmetic.proofs.product.Statement.{statement}
 use Rattle.arithmetic.proofs.product.Tie as tie
-use Rattle.arithmetic.specs.Meaning.{are_both, exact_positive}
+use Rattle.arithmetic.proofs.Meaning.{are_both, exact_positive}
 use Rattle.arithmetic.proofs.Ways.{on_fractions_lem, reduced_exact}
 
 returns : tie.Need-returns

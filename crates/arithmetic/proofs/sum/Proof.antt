@@ -8,7 +8,7 @@ use Rattle.arithmetic.proofs.sum.Statement.{statement}
 use Rattle.arithmetic.proofs.sum.Tie as tie
 use Rattle.arithmetic.specs.Quotient.{◌+Q◌, lowest}
 use Rattle.arithmetic.specs.Fraction.{IsFraction, exact, within, sum_of}
-use Rattle.arithmetic.specs.Meaning.{are_both, exact_positive, parts_coprime}
+use Rattle.arithmetic.proofs.Meaning.{are_both, exact_positive, parts_coprime}
 use Rattle.arithmetic.specs.declared.Fraction.{Fraction}
 use Rattle.arithmetic.proofs.Ways.{Told, on_fractions_lem, reduced_exact, one-read}
 use Rattle.arithmetic.proofs.Lowest.{sum_lowest}

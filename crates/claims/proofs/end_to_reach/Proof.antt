@@ -3,8 +3,8 @@
 use mathlib.Core.Path.{sym, ◌∙◌, subst}
 use borrow.Author.Rules.{rules}
 use Rattle.rules.specs.Sentence.Formed.{EndFormed}
-use Rattle.encoding.specs.EncodesLaws.{maximize_is}
-use Rattle.encoding.specs.Claims.{end_formed}
+use Rattle.encoding.proofs.EncodesLaws.{maximize_is}
+use Rattle.encoding.proofs.ClaimsLaws.{end_formed}
 use Rattle.claims.proofs.AskedLaws.{to_reach}
 use Rattle.claims.proofs.end_to_reach.Statement.{statement}
 use Rattle.claims.proofs.end_to_reach.Tie as tie

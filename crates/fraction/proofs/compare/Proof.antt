@@ -1,7 +1,7 @@
 -- `fraction::compare` meets its contract.
 use mathlib.Core.Path.{sym, ◌∙◌}
 use borrow.Author.Rules.{rules}
-use Rattle.arithmetic.specs.Meaning.{both_are, compare_answers}
+use Rattle.arithmetic.proofs.Meaning.{both_are, compare_answers}
 use Rattle.arithmetic.proofs.Ways.{not_fractions}
 use Rattle.fraction.proofs.Promised.{meant}
 use Rattle.fraction.proofs.compare.Statement.{statement}

@@ -1,7 +1,7 @@
 -- `fraction::floor` meets its contract.
 use mathlib.Core.Path.{sym, ◌∙◌}
 use borrow.Author.Rules.{rules}
-use Rattle.arithmetic.specs.Meaning.{fraction_is, floor_answers}
+use Rattle.arithmetic.proofs.Meaning.{fraction_is, floor_answers}
 use Rattle.arithmetic.proofs.Ways.{not_fractions}
 use Rattle.fraction.proofs.Promised.{meant}
 use Rattle.fraction.proofs.floor.Statement.{statement}

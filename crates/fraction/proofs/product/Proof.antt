@@ -4,7 +4,7 @@ use mathlib.Core.Bool.{Bool, true, ◌&&◌}
 use borrow.Author.Rules.{rules}
 use Rattle.arithmetic.specs.Quotient.{Quotient, lowest}
 use Rattle.arithmetic.specs.Fraction.{is_fraction, within, on_fractions}
-use Rattle.arithmetic.specs.Meaning.{product-means}
+use Rattle.arithmetic.proofs.Meaning.{product-means}
 use Rattle.arithmetic.specs.Parts.{is_shaped}
 use Rattle.arithmetic.proofs.Ways.{Told}
 use Rattle.fraction.proofs.Promised.{meant}

@@ -1,6 +1,6 @@
 -- `fraction::reduced` meets its contract.
 use borrow.Author.Rules.{rules}
-use Rattle.arithmetic.specs.Meaning.{reduced_means}
+use Rattle.arithmetic.proofs.Meaning.{reduced_means}
 use Rattle.fraction.proofs.Promised.{meant}
 use Rattle.fraction.proofs.reduced.Statement.{statement}
 use Rattle.fraction.proofs.reduced.Tie as tie

@@ -3,7 +3,7 @@ use mathlib.Core.Path.{◌≡◌, refl, sym, ◌∙◌}
 use mathlib.Core.Bool.{true, false}
 use Rattle.grammar.specs.Header.{is_maximize}
 use Rattle.grammar.specs.Tree.{Direction, minimize, maximize, at_most, at_least}
-use Rattle.rules.specs.Tests.{not-true}
+use Rattle.rules.proofs.Tests.{not-true}
 use Rattle.rules.specs.Solutions.{towards}
 use Rattle.senses.proofs.sense_towards.Statement.{statement}
 use Rattle.senses.proofs.sense_towards.Tie as tie

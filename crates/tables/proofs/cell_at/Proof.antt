@@ -1,6 +1,6 @@
 -- `tables::cell_at` meets its contract: the cell, or 0 where there is none.
 use mathlib.Core.Path.{refl}
-use Rattle.tables.specs.CellsLaws.{cell_beyond}
+use Rattle.tables.proofs.CellsLaws.{cell_beyond}
 use borrow.Author.Rules.{rules}
 use native.Mathlib.Omega.{arith}
 use Rattle.tables.proofs.cell_at.Statement.{statement}

@@ -1,5 +1,5 @@
 -- `tables::cell_from` meets its contract: a sum beyond the end is no cell.
-use Rattle.tables.specs.CellsLaws.{cell_beyond}
+use Rattle.tables.proofs.CellsLaws.{cell_beyond}
 use borrow.Author.Rules.{rules}
 use native.Mathlib.Omega.{arith}
 use Rattle.tables.proofs.cell_from.Statement.{statement}

@@ -1,6 +1,6 @@
 -- `tables::cells_of` meets its contract: cells that the table does not have are no part of it.
 use mathlib.Core.Path.{refl, sym}
-use Rattle.tables.specs.CellsLaws.{part_none, part_cut}
+use Rattle.tables.proofs.CellsLaws.{part_none, part_cut}
 use borrow.Author.Rules.{rules}
 use native.Mathlib.Omega.{arith}
 use Rattle.tables.proofs.cells_of.Statement.{statement}

@@ -1,6 +1,6 @@
 -- `tables::store_cell` meets its contract: a store beyond the end, or of a number that no cell holds, changes nothing.
 use mathlib.Core.Path.{sym}
-use Rattle.tables.specs.CellsLaws.{with_cell_lem, with_none, with_cell_beyond}
+use Rattle.tables.proofs.CellsLaws.{with_cell_lem, with_none, with_cell_beyond}
 use borrow.Author.Rules.{rules}
 use native.Mathlib.Omega.{arith}
 use Rattle.tables.proofs.store_cell.Statement.{statement}

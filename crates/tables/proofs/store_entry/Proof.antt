@@ -1,7 +1,7 @@
 use Rattle.tables.proofs.Entries.{entry_stored}
 -- `tables::store_entry` meets its contract: its four cells, one after the other.
 use mathlib.Core.Path.{sym}
-use Rattle.tables.specs.CellsLaws.{with_entry_beyond}
+use Rattle.tables.proofs.CellsLaws.{with_entry_beyond}
 use borrow.Author.Rules.{rules}
 use native.Mathlib.Omega.{arith}
 use Rattle.tables.proofs.store_entry.Statement.{statement}

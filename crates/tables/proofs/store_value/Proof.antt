@@ -1,7 +1,7 @@
 use Rattle.integers.proofs.Casts.{back_of}
 -- `tables::store_value` meets its contract: the two numbers at twice its number.
 use mathlib.Core.Path.{sym}
-use Rattle.tables.specs.CellsLaws.{with_value_lem, with_value_beyond}
+use Rattle.tables.proofs.CellsLaws.{with_value_lem, with_value_beyond}
 use borrow.Author.Rules.{rules}
 use native.Mathlib.Omega.{arith}
 use Rattle.tables.proofs.store_value.Statement.{statement}

@@ -1,5 +1,5 @@
 -- `tables::value_at` meets its contract: the two numbers at twice its number.
-use Rattle.tables.specs.CellsLaws.{value_is, value_beyond}
+use Rattle.tables.proofs.CellsLaws.{value_is, value_beyond}
 use borrow.Author.Rules.{rules}
 use native.Mathlib.Omega.{arith}
 use Rattle.tables.proofs.value_at.Statement.{statement}

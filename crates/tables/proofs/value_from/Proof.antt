@@ -1,5 +1,5 @@
 -- `tables::value_from` meets its contract: a sum beyond the end is no value's number.
-use Rattle.tables.specs.CellsLaws.{value_beyond}
+use Rattle.tables.proofs.CellsLaws.{value_beyond}
 use borrow.Author.Rules.{rules}
 use native.Mathlib.Omega.{arith}
 use Rattle.tables.proofs.value_from.Statement.{statement}

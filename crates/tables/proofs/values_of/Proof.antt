@@ -1,7 +1,7 @@
 use Prim.Native.Nat.{◌+◌, ◌*◌}
 -- `tables::values_of` meets its contract: values that the table does not have are no part of it.
 use mathlib.Core.Path.{sym}
-use Rattle.tables.specs.CellsLaws.{part_none, part_cut}
+use Rattle.tables.proofs.CellsLaws.{part_none, part_cut}
 use borrow.Author.Rules.{rules}
 use native.Mathlib.Omega.{arith}
 use Rattle.tables.proofs.values_of.Statement.{statement}

@@ -5,7 +5,7 @@ use mathlib.Core.Path.{refl, sym, ◌∙◌}
 use borrow.Author.Rules.{rules}
 use native.Mathlib.Omega.{arith}
 use lib.ListN.{length}
-use Rattle.text.specs.ShownLaws.{from_begun, to_begun, begun_inside, from_none, to_none}
+use Rattle.text.proofs.ShownLaws.{from_begun, to_begun, begun_inside, from_none, to_none}
 use Rattle.text.proofs.Turns.{run_inside}
 use Rattle.text.proofs.Parts.{part_at}
 use Rattle.text.proofs.Promised.{token_shown}

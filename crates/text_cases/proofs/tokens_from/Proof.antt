@@ -7,7 +7,7 @@ use borrow.Author.Rules.{rules}
 use native.Mathlib.Omega.{arith}
 use lib.ListN.{length}
 use Rattle.text.specs.Scans.{Found}
-use Rattle.text.specs.ScansLaws.{found}
+use Rattle.text.proofs.ScansLaws.{found}
 use Rattle.text_cases.proofs.tokens_from.Statement.{statement}
 use Rattle.text_cases.proofs.tokens_from.Tie as tie
 

@@ -4,7 +4,7 @@ use borrow.Author.Rules.{rules}
 use native.Mathlib.Omega.{arith}
 use lib.ListN.{drop, length-drop}
 use Rattle.text.specs.Bytes.{is_digit}
-use Rattle.text.specs.BytesLaws.{leading_le}
+use Rattle.text.proofs.BytesLaws.{leading_le}
 use Rattle.value.proofs.Runs.{read_short, continued_zeros, continued_digits}
 use Rattle.value.proofs.read_on.Statement.{statement}
 use Rattle.value.proofs.read_on.Tie as tie

@@ -3,7 +3,7 @@
 use mathlib.Core.Path.{sym, ◌∙◌, ap, subst}
 use Rattle.grammar.specs.Tree.{End}
 use Rattle.rules.specs.Sentence.Formed.{EndFormed}
-use Rattle.arithmetic.specs.Laws.{zero_is}
+use Rattle.arithmetic.proofs.Laws.{zero_is}
 use Rattle.encoding.specs.Claims.{end_says}
 use Rattle.checker.proofs.InOrder.{solutions_refused, after_solutions}
 use borrow.Author.Rules.{rules}

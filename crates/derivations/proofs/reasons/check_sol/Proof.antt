@@ -7,7 +7,7 @@ use Rattle.rules.specs.Result.{refused}
 use Rattle.rules.specs.Rows.{variables, value_in, objective_with}
 use Rattle.rules.specs.Derivations.{check_dominates, check_sol}
 use Rattle.rules.specs.Sentence.Formed.{Formed}
-use Rattle.encoding.specs.EncodesLaws.{maximize_is}
+use Rattle.encoding.proofs.EncodesLaws.{maximize_is}
 use Rattle.derivations.specs.Checks.{best_says}
 use Rattle.derivations.proofs.reasons.check_sol.Statement.{statement}
 use Rattle.derivations.proofs.reasons.check_sol.Tie as tie

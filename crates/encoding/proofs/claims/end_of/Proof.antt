@@ -1,6 +1,7 @@
 use mathlib.Core.Path.{sym, ap, ◌∙◌}
 use mathlib.Core.Bool.{Bool}
-use Rattle.encoding.specs.Claims.{claim_word, end_in}
+use Rattle.encoding.specs.Claims.{end_in}
+use Rattle.encoding.proofs.ClaimsLaws.{claim_word}
 -- `encoding::claims::end_of` meets its contract: the lower or the upper end of a range; none of `infeas`.
 use Rattle.encoding.proofs.ClaimsLaws.{no_end, upper_end, lower_end}
 use borrow.Author.Rules.{rules}

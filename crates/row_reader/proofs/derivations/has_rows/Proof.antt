@@ -5,7 +5,7 @@ use Prim.Native.Nat.{◌-◌}
 use borrow.Author.Tests.{leb-true, le-leb}
 use Rattle.row_reader.proofs.derivations.has_rows.Statement.{statement}
 use Rattle.row_reader.proofs.derivations.has_rows.Tie as tie
-use Rattle.text.specs.BytesLaws.{clash}
+use Rattle.text.proofs.BytesLaws.{clash}
 
 returns : tie.Need-returns
 returns c = ((λ e. clash refl e), λ h. absurd (omega (arith, h, c.if1.true)))

@@ -24,7 +24,7 @@ use Rattle.symbol_reader.proofs.Laws.{Loop, not-true, not-false}
 use Rattle.symbol_reader.proofs.FollowsLaws.{follows_by, follows_stop, follows_told}
 use Rattle.symbol_reader.proofs.LoopLaws.{Looping, looping_start, looping_more, looping_stop, looping_done}
 use Rattle.symbol_reader.proofs.NamesLaws.{loop_names}
-use Rattle.text.specs.BytesLaws.{clash}
+use Rattle.text.proofs.BytesLaws.{clash}
 use Rattle.row_reader.specs.Parts.{word_cell}
 use Rattle.row_reader.proofs.RowNames.{derivations-marked}
 use Rattle.row_reader.proofs.Reasons.{counts, one_at_most, assumptions_more, derivation_as, same_number}

@@ -5,7 +5,7 @@ use borrow.Author.Rules.{rules}
 use Rattle.arithmetic.specs.declared.Fraction.{Fraction}
 use Rattle.arithmetic.specs.Outcome.{Outcome, gives, refuses}
 use Rattle.arithmetic.specs.Fraction.{product_of, sum_of, after}
-use Rattle.arithmetic.specs.Meaning.{product_then_sum}
+use Rattle.arithmetic.proofs.Meaning.{product_then_sum}
 use Rattle.rules.specs.Result.{bind}
 use Rattle.rules.specs.Values.{within12, sum_at}
 use Rattle.senses.proofs.values.plus_product.Statement.{statement}

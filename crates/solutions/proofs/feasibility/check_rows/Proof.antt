@@ -7,7 +7,7 @@ use Rattle.rules.specs.Result.{◌andThen◌, each}
 use Rattle.rules.specs.Rows.{row_of, no_row}
 use Rattle.rules.specs.Solutions.{check_row}
 use Rattle.encoding.specs.Encodes.{EncodesRow, Encodes}
-use Rattle.encoding.specs.EncodesLaws.{given_are, rows_are, given-at}
+use Rattle.encoding.proofs.EncodesLaws.{given_are, rows_are, given-at}
 use Rattle.verdicts.specs.Verdicts.{verdict_says}
 use Rattle.verdicts.specs.declared.Verdict.{Verdict}
 use Rattle.solutions.specs.Points.{IsPoint}

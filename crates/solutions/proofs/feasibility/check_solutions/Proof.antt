@@ -6,7 +6,7 @@ use Rattle.grammar.specs.Tree.{Tree}
 use Rattle.rules.specs.Result.{◌andThen◌, each}
 use Rattle.rules.specs.Solutions.{check_solution}
 use Rattle.encoding.specs.Encodes.{no_solution, Encodes}
-use Rattle.encoding.specs.EncodesLaws.{solutions_are}
+use Rattle.encoding.proofs.EncodesLaws.{solutions_are}
 use Rattle.verdicts.specs.Verdicts.{verdict_says}
 use Rattle.verdicts.specs.declared.Verdict.{Verdict}
 use Rattle.solutions.proofs.Lists.{Checking, checking_is, checking_end}

@@ -6,7 +6,7 @@ use Rattle.grammar.specs.Tree.{Tree}
 use Rattle.rules.specs.Result.{refused}
 use Rattle.rules.specs.Rows.{objective}
 use Rattle.encoding.specs.Encodes.{solution_at, Encodes}
-use Rattle.encoding.specs.EncodesLaws.{maximize_is, solutions_are}
+use Rattle.encoding.proofs.EncodesLaws.{maximize_is, solutions_are}
 use Rattle.senses.proofs.ArithmeticLaws.{says, is_refused}
 use Rattle.solutions.proofs.LeftSides.{left_fraction}
 use Rattle.solutions.proofs.ObjectivesLaws.{WorkedTo, worked_start, worked_on, worked_stop, worked_end}

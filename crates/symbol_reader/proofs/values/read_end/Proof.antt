@@ -10,7 +10,7 @@ use lib.Seq.{slice}
 use Rattle.symbol_reader.proofs.values.read_end.Statement.{statement}
 use Rattle.symbol_reader.proofs.values.read_end.Tie as tie
 use Rattle.text.specs.Bytes.{Bytes, same}
-use Rattle.text.specs.BytesLaws.{clash}
+use Rattle.text.proofs.BytesLaws.{clash}
 use Rattle.text.specs.Tokens.{rest}
 use Rattle.text.specs.Scans.{Found}
 use Rattle.arithmetic.specs.declared.Fraction.{Fraction}

@@ -1,7 +1,8 @@
 -- `linear::combinations::Combination::empty` meets its contract: nothing is stored yet.
 use mathlib.Core.Path.{refl, sym, subst}
 use Rattle.arithmetic.specs.Fraction.{IsFraction}
-use Rattle.arithmetic.specs.Laws.{zero_f, zero_is}
+use Rattle.arithmetic.specs.Laws.{zero_f}
+use Rattle.arithmetic.proofs.Laws.{zero_is}
 use Rattle.linear.proofs.CoefficientsLaws.{none_stored}
 use Rattle.linear.proofs.combinations.Combination.empty.Statement.{statement}
 use Rattle.linear.proofs.combinations.Combination.empty.Tie as tie
