@@ -3,7 +3,7 @@
 -- Assumes nothing.
 use Rattle.std.specs.Prelude.{◌≡◌, refl, Bool, true, false, ◌↔◌, ℕ, zero, suc, ◌*◌, ◌/◌, ◌≤◌, ◌<◌, eqb, ℤ, pos, nat_abs, ◌+ℤ◌, ◌*ℤ◌, ◌≤ℤ◌}
 use Rattle.std.proofs.Common.{sym, ◌∙◌, ap, zero-lt-suc, mul-pos, div-one, arith, eqb-true}
-use Rattle.std.proofs.Math.Logic.{Iff.trans}
+use Rattle.std.proofs.Math.Logic.Iff.{trans as iff_trans}
 use Rattle.std.specs.Int.{◌∣◌}
 use Rattle.std.proofs.Math.Nat.{div-mul_cancel, dvd-mul_right, dvd-mul_left_of_dvd}
 use Rattle.std.proofs.lemmas.Bool.{eqb-false}
@@ -80,7 +80,7 @@ module _ (s : Sense) (k : ℕ) (x y : Quotient) (m n : ℤ) (pk : 0 < k) (px : P
   from_scaled h = rel_cancel s k _ _ pk (rel_same s (sym lefts) (sym rights) (rel_times s (x.bottom * y.bottom) m n h))
 
   pub compares_scaled : Compares s x y ↔ Rel s m n
-  compares_scaled = Iff.trans (crossed s x y) (to_scaled, from_scaled)
+  compares_scaled = iff_trans (crossed s x y) (to_scaled, from_scaled)
 
 -- ---- the number
 

@@ -3,7 +3,7 @@
 -- Assumes nothing.
 use Rattle.std.specs.Prelude.{◌≡◌, refl, List, [], ◌∷◌, ◌↔◌, ℕ, zero, suc, ◌<◌, ℤ, pos, negsuc, ◌+ℤ◌, ◌*ℤ◌, ◌≤ℤ◌}
 use Rattle.std.proofs.Common.{sym, ◌∙◌, ap, subst, arith}
-use Rattle.std.proofs.Math.Logic.{Iff.trans}
+use Rattle.std.proofs.Math.Logic.Iff.{trans as iff_trans}
 use Rattle.std.proofs.Math.IntN.{+ℤ_idr}
 use Rattle.text.specs.Bytes.{Bytes, is_separator, is_printable, is_digit}
 use Rattle.text.specs.Comments.{comments_end}
@@ -75,7 +75,7 @@ module _ (numerator : ℕ → ℤ) (D : ℕ) (positive : 0 < D) where
   -- a left side compares with a whole b exactly as the sum does with b D
   compares : (s : Sense) (ts : List Term) → FairTerms over 1 (λ f. f.num) ts → (b : ℤ) → Compares s (value_at ts over) (whole_q b) ↔ Rel s (total ts) (b *ℤ pos D)
   compares s ts h b =
-      Iff.trans (sum_compares over 1 (λ f. f.num) (omega arith) s ts (whole_f b) h (whole b))
+      iff_trans (sum_compares over 1 (λ f. f.num) (omega arith) s ts (whole_f b) h (whole b))
       (rel_same s (total_sum ts) refl, rel_same s (sym (total_sum ts)) refl)
 
 -- ---- what a verified text says of the tree that it is read as
