@@ -77,9 +77,8 @@ reduced_exact q x e h =
     on_fractions_lem _ (not (eqb q.bottom 0)) (ap not (ne_eqb q.bottom 0 (λ z. omega arith))) ∙ ap (λ (y : Quotient). within (lowest y)) e
 
 -- what is refused stays refused
-pub stays : (a : Arithmetic) (next : Fraction → Outcome Fraction) → (tag_of the_type a ≡ 1) ⊎ (tag_of the_type a ≡ 2) → arithmetic_says a ≡ after (arithmetic_says a) next
-stays (Value f) next (inl e) = absurd (omega (arith, e))
-stays (Value f) next (inr e) = absurd (omega (arith, e))
+pub stays : (a : Arithmetic) (next : Fraction → Outcome Fraction) → ((f : Fraction) → a ≡ Value f → ⊥) → arithmetic_says a ≡ after (arithmetic_says a) next
+stays (Value f) next h = absurd (h f refl)
 stays NotAFraction next h = refl
 stays TooWide next h = refl
 
