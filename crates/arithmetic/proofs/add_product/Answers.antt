@@ -1,9 +1,8 @@
 -- `arithmetic::add_product` meets its contract: a product with 0, whole numbers, and then any.
-use mathlib.Core.Path.{◌≡◌, refl, sym, ◌∙◌, ap, ap₂}
+use mathlib.Core.Path.{◌≡◌, sym, ◌∙◌, ap}
 use lib.IntN.{nat_abs}
-use borrow.Author.Rules.{rules}
 use Rattle.integers.proofs.Casts.{back_of}
-use Rattle.arithmetic.specs.Fraction.{IsFraction, add_product_of}
+use Rattle.arithmetic.specs.Fraction.{IsFraction}
 use Rattle.arithmetic.specs.declared.Fraction.{Fraction}
 use Rattle.arithmetic.proofs.Ways.{Told, zero-read, one-read}
 use Rattle.arithmetic.proofs.Whole.{IsWhole, whole-add, zero_added}

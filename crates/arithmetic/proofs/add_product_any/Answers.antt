@@ -1,6 +1,5 @@
 -- `arithmetic::add_product_any` meets its contract: the sum with what the product gave, or what it refused.
 use mathlib.Core.Path.{◌≡◌, sym, ◌∙◌, ap}
-use borrow.Author.Rules.{rules}
 use Rattle.arithmetic.specs.Outcome.{Outcome, gives}
 use Rattle.arithmetic.specs.Fraction.{product_of, sum_of, after, arithmetic_says}
 use Rattle.arithmetic.proofs.Meaning.{product_then_sum}

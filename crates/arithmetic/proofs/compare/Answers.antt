@@ -1,6 +1,5 @@
 -- `arithmetic::compare` meets its contract: the cross products of two fractions are ordered as they are.
 use mathlib.Core.Path.{sym, ◌∙◌, ap₂}
-use borrow.Author.Rules.{rules}
 use lib.IntN.{ℤ}
 use mir.Syntax.{w64}
 use Rattle.integers.proofs.Casts.{back_at}

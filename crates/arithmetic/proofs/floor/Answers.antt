@@ -1,13 +1,9 @@
 -- `arithmetic::floor` meets its contract: a fraction is shaped.
-use mathlib.Core.Path.{◌≡◌, sym, ◌∙◌, subst}
-use mathlib.Core.Bool.{Bool, true, not}
-use borrow.Author.Rules.{rules}
-use lib.Dec.{T}
+use mathlib.Core.Path.{◌∙◌}
 use Rattle.integers.proofs.Casts.{back_of}
 use Rattle.arithmetic.specs.Quotient.{floor_z}
 use Rattle.arithmetic.proofs.Meaning.{is_fraction_lem}
-use Rattle.arithmetic.specs.Parts.{is_shaped}
-use Rattle.arithmetic.proofs.Ways.{Told, rounded, shaped_is, is_shaped_lem}
+use Rattle.arithmetic.proofs.Ways.{Told, rounded}
 use Rattle.arithmetic.proofs.floor.Goals as goal
 
 pub returns-then-is_shaped : goal.returns-then-is_shaped

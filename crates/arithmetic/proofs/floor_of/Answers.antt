@@ -5,7 +5,7 @@ use mir.Facts.{to_z-of_z}
 use lib.IntN.{pos, nat_abs}
 use lib.Signed.{lt_z, rem_z}
 use Rattle.integers.proofs.Casts.{back}
-use Rattle.arithmetic.proofs.Rounded.{pos_bits, quot_fits, rem_fits, floor_down, floor_stay, floor_fits}
+use Rattle.arithmetic.proofs.Rounded.{quot_fits, rem_fits, floor_down, floor_stay, floor_fits}
 use Rattle.arithmetic.proofs.floor_of.Goals as goal
 
 pub returns-then-n-d-lt0 : goal.returns-then-n-d-lt0

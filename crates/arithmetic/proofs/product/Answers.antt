@@ -1,7 +1,6 @@
 -- `arithmetic::product` meets its contract: the exact product, brought to lowest terms.
 use mathlib.Core.Path.{sym, ◌∙◌}
 use native.Mathlib.Nat.{mul-pos}
-use borrow.Author.Rules.{rules}
 use Rattle.arithmetic.proofs.Meaning.{are_both, exact_positive}
 use Rattle.arithmetic.proofs.Ways.{on_fractions_lem, reduced_exact}
 use Rattle.arithmetic.proofs.product.Goals as goal

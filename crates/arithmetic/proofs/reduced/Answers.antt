@@ -2,9 +2,7 @@
 -- quotient is once both parts are divided by their greatest common divisor.
 use mathlib.Core.Path.{refl, sym, ◌∙◌, ap}
 use mathlib.Core.Bool.{not}
-use Prim.Native.Nat.{◌<◌}
 use native.Mathlib.Omega.{arith}
-use borrow.Author.Rules.{rules}
 use borrow.Author.Tests.{eq-eqb, ne_eqb}
 use Rattle.integers.specs.Signs.{with_sign}
 use Rattle.arithmetic.specs.Fraction.{within}

@@ -2,7 +2,6 @@
 use mathlib.Core.Path.{◌≡◌, sym, ◌∙◌, ap}
 use lib.IntN.{nat_abs}
 use native.Mathlib.Nat.{mul-pos}
-use borrow.Author.Rules.{rules}
 use Rattle.integers.specs.Coprime.{Coprime, coprime_one, coprime_sym}
 use Rattle.arithmetic.specs.Quotient.{◌+Q◌, lowest}
 use Rattle.arithmetic.specs.Fraction.{IsFraction, exact, within, sum_of}
