@@ -1,15 +1,14 @@
 -- What is proved of the definitions in specs/Laws.antt.
 -- Assumes nothing.
-use Rattle.std.specs.Prelude.{◌≡◌, refl, Bool, true, false, ◌&&◌, ℕ, ◌*◌, ℤ, pos, nat_abs, ◌+ℤ◌, ◌*ℤ◌}
-use Rattle.std.proofs.Common.{sym, ◌∙◌, ap, mul_comm, one-mul, lit≤}
+use Rattle.std.specs.Prelude.{◌≡◌, refl, Bool, true, false, ◌&&◌, ◌*◌, pos, nat_abs}
+use Rattle.std.proofs.Common.{mul_comm, lit≤}
 use Rattle.std.proofs.Math.Nat.{mul-one, eq-one_of_dvd-one}
 use Rattle.std.proofs.Math.IntN.{*ℤ_comm, *ℤ-zero, zero-*ℤ, +ℤ_idr}
-use Rattle.integers.specs.Integers.{*ℤ-pos-one, one-*ℤ}
-use Rattle.arithmetic.specs.Outcome.{Outcome, gives, refuses}
-use Rattle.arithmetic.specs.Quotient.{Quotient, ◌≈◌, ◌+Q◌, ◌*Q◌, lowest}
+use Rattle.integers.specs.Integers.{*ℤ-pos-one}
+use Rattle.arithmetic.specs.Outcome.{gives}
+use Rattle.arithmetic.specs.Quotient.{Quotient, ◌≈◌, ◌+Q◌, ◌*Q◌}
 use Rattle.arithmetic.proofs.QuotientLaws.{+Q_comm}
-use Rattle.arithmetic.specs.Fraction.{IsFraction, is_fraction, exact, within, on_fractions, product_of, sum_of}
-use Rattle.arithmetic.specs.Meaning.{Means}
+use Rattle.arithmetic.specs.Fraction.{IsFraction, is_fraction, exact, product_of, sum_of}
 use Rattle.arithmetic.proofs.Meaning.{product-means, sum_means}
 use Rattle.arithmetic.specs.declared.Fraction.{Fraction}
 use Rattle.arithmetic.specs.Laws.{zero_f, one_f}

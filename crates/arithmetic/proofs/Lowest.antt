@@ -1,23 +1,20 @@
 -- Quotients brought to lowest terms: what is worked out is `lowest` of the exact result.
 -- Assumes nothing.
 use mathlib.Core.Path.{◌≡◌, refl, sym, ◌∙◌, ap, ap₂, subst}
-use mathlib.Core.Bool.{Bool, true, false, not, beq}
+use mathlib.Core.Bool.{Bool, true, false}
 use mathlib.Core.Logic.{◌⊎◌, inl, inr}
-use Prim.Native.Nat.{ℕ, zero, suc, ◌*◌, ◌/◌, ◌≤◌, ◌<◌}
-use native.Mathlib.Nat.{zero-div, zero-mul, mul-zero, zero-lt-suc, mul-pos, mul-one, one-mul, mul-le-mul}
+use Prim.Native.Nat.{ℕ, zero, suc, ◌*◌, ◌/◌, ◌<◌}
+use native.Mathlib.Nat.{zero-div, zero-mul, mul-zero, zero-lt-suc, mul-pos, mul-one}
 use native.Mathlib.Omega.{arith}
-use lib.IntN.{ℤ, pos, negsuc, nat_abs, ◌+ℤ◌, ◌*ℤ◌}
+use lib.IntN.{ℤ, pos, negsuc, nat_abs, ◌*ℤ◌}
 use lib.Signed.{quot_z}
-use mir.Syntax.{w64}
-use mir.Val.{SFits}
-use Rattle.integers.specs.Signs.{is_negative, with_sign, nat_abs-with_sign, nat_abs_mul, nat_abs-add, mag-nat_abs, product_sign}
+use Rattle.integers.specs.Signs.{is_negative, with_sign, nat_abs-with_sign}
 use Rattle.integers.specs.Integers.{*ℤ-neg_l}
 use Rattle.integers.specs.Gcd.{gcd, gcd_positive}
-use Rattle.integers.specs.Coprime.{Coprime, coprime_one, coprime_sym, sum_coprime}
-use Rattle.arithmetic.specs.Quotient.{Quotient, ◌≈◌, ◌+Q◌, ◌*Q◌, lowest}
+use Rattle.integers.specs.Coprime.{Coprime, coprime_one, sum_coprime}
+use Rattle.arithmetic.specs.Quotient.{Quotient, ◌≈◌, ◌+Q◌, lowest}
 use Rattle.arithmetic.specs.QuotientLaws.{Positive}
 use Rattle.arithmetic.proofs.QuotientLaws.{lowest_is}
-use Rattle.arithmetic.specs.Fraction.{limit}
 use Rattle.arithmetic.specs.Parts.{over}
 
 -- ---- signs

@@ -2,7 +2,7 @@
 -- Assumes nothing.
 use Rattle.std.proofs.Math.Path.{◌≡◌, refl, ap, subst}
 use Rattle.std.proofs.Common.{sym, ◌∙◌, ap₂, inl, inr, mul-pos, pos_of_ne-zero, arith}
-use Rattle.std.specs.Prelude.{◌↔◌, ◌⊎◌, Bool, not, ◌&&◌, ℕ, ◌*◌, ◌≤◌, ◌<◌, T, eqb, ℤ, pos, negsuc, nat_abs, ◌*ℤ◌, ◌≤ℤ◌, ◌<ℤ◌}
+use Rattle.std.specs.Prelude.{◌↔◌, ◌⊎◌, Bool, not, ◌&&◌, ℕ, ◌<◌, T, eqb, ℤ, pos, negsuc, nat_abs, ◌*ℤ◌, ◌<ℤ◌}
 use Rattle.std.proofs.Math.Logic.{⊎_elim}
 use Rattle.std.proofs.Math.Bool.{true, false, cond}
 use borrow.Author.Tests.{not-true, ltb-true, leb-true, eqb-true, eqb-false, le-leb, lt-ltb, eq-eqb, ne_eqb}
@@ -13,7 +13,7 @@ use Rattle.integers.specs.Gcd.{gcd}
 use Rattle.integers.specs.Coprime.{Coprime, coprime_of, coprime_common}
 use Rattle.integers.specs.Signs.{with_sign}
 use Rattle.arithmetic.specs.Outcome.{Outcome, gives, refuses}
-use Rattle.arithmetic.specs.Quotient.{Quotient, ◌≈◌, ◌≤Q◌, ◌<Q◌, ◌+Q◌, ◌*Q◌, whole_q, lowest, floor_q, ceiling_q}
+use Rattle.arithmetic.specs.Quotient.{Quotient, ◌≈◌, ◌<Q◌, ◌+Q◌, ◌*Q◌, lowest, floor_q, ceiling_q}
 use Rattle.arithmetic.specs.QuotientLaws.{Positive}
 use Rattle.arithmetic.proofs.QuotientLaws.{≈_sym, ≈_trans, +Q_cong_right, ≤Q_of_≈, ≤Q_of_<, <Q_clash, lowest_positive, lowest_coprime, lowest_equal, lowest-terms_unique, lowest_is, floor_below, floor_greatest, ceiling_above, ceiling_least}
 use Rattle.arithmetic.specs.Fraction.{limit, IsFraction, is_fraction, exact, within, on_fractions, reduced_of, product_of, sum_of, after, add_product_of, Order, less, equal, greater, order, order_q, compare_of, floor_of, ceiling_of}

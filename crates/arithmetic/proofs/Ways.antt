@@ -1,33 +1,27 @@
 -- The ways out of the functions that test, over plain values.
 -- Assumes nothing.
 use mathlib.Core.Path.{◌≡◌, refl, sym, ◌∙◌, ap, ap₂, subst}
-use mathlib.Core.Bool.{Bool, true, false, not, ◌&&◌}
+use mathlib.Core.Bool.{Bool, true, false, not}
 use Prim.Native.Nat.{ℕ, ◌≤◌, ◌<◌}
-use mathlib.Core.Logic.{◌⊎◌, inl, inr}
 use native.Mathlib.Omega.{arith}
-use denote.Enum.Declared.{tag_of}
-use borrow.Author.Tests.{ltb-true, leb-true, eqb-true, le-leb, lt-leb, eq-eqb, ne_eqb}
+use borrow.Author.Tests.{leb-true, le-leb, lt-leb, ne_eqb}
 use lib.Dec.{T, leb, eqb}
-use lib.IntN.{ℤ, pos, negsuc, nat_abs, ◌*ℤ◌}
+use lib.IntN.{ℤ, pos, nat_abs, ◌*ℤ◌}
 use lib.Signed.{mag, lt_z, ◌<ℤ◌}
 use mir.Syntax.{w32, w64}
 use mir.Val.{to_z, of_z}
 use Rattle.integers.specs.Signs.{with_sign, nat_abs-with_sign}
-use Rattle.integers.specs.Gcd.{gcd}
-use Rattle.integers.specs.Coprime.{coprime_one}
-use Rattle.integers.specs.Binary.{gcd-zero-left}
-use Rattle.integers.proofs.Casts.{positive_mag, back_of}
+use Rattle.integers.proofs.Casts.{back_of}
 use Rattle.arithmetic.specs.Outcome.{Outcome, gives, refuses}
 use Rattle.arithmetic.specs.Quotient.{Quotient, lowest}
 use Rattle.arithmetic.specs.QuotientLaws.{Positive}
-use Rattle.arithmetic.specs.Fraction.{limit, IsFraction, is_fraction, exact, ratio_of, within, reduced_of, on_fractions, after, arithmetic_says, order, less, equal, greater}
-use Rattle.arithmetic.proofs.Meaning.{truth, and-true, true_and, exact_positive}
+use Rattle.arithmetic.specs.Fraction.{limit, IsFraction, is_fraction, ratio_of, within, reduced_of, on_fractions, after, arithmetic_says, order, less, equal, greater}
+use Rattle.arithmetic.proofs.Meaning.{truth, and-true, true_and}
 use Rattle.arithmetic.specs.Parts.{is_shaped, over}
 use Rattle.arithmetic.specs.declared.Fraction.{Fraction}
 use Rattle.arithmetic.specs.declared.Ratio.{Ratio}
 use Rattle.arithmetic.specs.declared.Arithmetic.{Arithmetic}
 use Rattle.arithmetic.specs.declared.Arithmetic.TheVariants.{Value, NotAFraction, TooWide}
-use Rattle.arithmetic.specs.contracts.Arithmetic.{the_type}
 
 -- ---- within
 
@@ -77,9 +71,8 @@ reduced_exact q x e h =
     on_fractions_lem _ (not (eqb q.bottom 0)) (ap not (ne_eqb q.bottom 0 (λ z. omega arith))) ∙ ap (λ (y : Quotient). within (lowest y)) e
 
 -- what is refused stays refused
-pub stays : (a : Arithmetic) (next : Fraction → Outcome Fraction) → (tag_of the_type a ≡ 1) ⊎ (tag_of the_type a ≡ 2) → arithmetic_says a ≡ after (arithmetic_says a) next
-stays (Value f) next (inl e) = absurd (omega (arith, e))
-stays (Value f) next (inr e) = absurd (omega (arith, e))
+pub stays : (a : Arithmetic) (next : Fraction → Outcome Fraction) → ((f : Fraction) → a ≡ Value f → ⊥) → arithmetic_says a ≡ after (arithmetic_says a) next
+stays (Value f) next h = absurd (h f refl)
 stays NotAFraction next h = refl
 stays TooWide next h = refl
 

@@ -9,7 +9,7 @@ use lib.IntN.{ℤ, pos, nat_abs, ◌+ℤ◌, ◌*ℤ◌, zero-*ℤ}
 use Rattle.integers.specs.Integers.{*ℤ-pos-one}
 use Rattle.arithmetic.specs.Outcome.{Outcome, gives, refuses}
 use Rattle.arithmetic.specs.Quotient.{◌≈◌, ◌+Q◌, ◌*Q◌}
-use Rattle.arithmetic.specs.Fraction.{limit, IsFraction, is_fraction, exact, within, product_of, sum_of, after, add_product_of}
+use Rattle.arithmetic.specs.Fraction.{limit, IsFraction, exact, within, product_of, sum_of, after, add_product_of}
 use Rattle.arithmetic.proofs.Meaning.{are_both, exact_unique, product_then_sum}
 use Rattle.arithmetic.specs.Laws.{zero_f}
 use Rattle.arithmetic.proofs.Laws.{zero_is, sum_zero, product-zero, product_is}

@@ -1,7 +1,7 @@
 -- Fractions within the limit, and the operations on them (document 01, "Reasons of refusal" and "Solutions, then
 -- derivations"): what each gives or refuses, for every pair of numbers whatever.
 -- Assumes nothing.
-use Rattle.std.specs.Prelude.{◌≡◌, Bool, true, false, cond, not, ◌&&◌, ℕ, ◌≤◌, leb, eqb, ℤ, pos, nat_abs, ◌*ℤ◌, ◌<ℤ◌}
+use Rattle.std.specs.Prelude.{◌≡◌, Bool, cond, not, ◌&&◌, ℕ, ◌≤◌, leb, eqb, ℤ, pos, nat_abs, ◌*ℤ◌, ◌<ℤ◌}
 use Rattle.std.specs.Int.{◌∣◌}
 use Rattle.std.specs.Int.Signed.{lt_z}
 use Rattle.integers.specs.Gcd.{gcd}

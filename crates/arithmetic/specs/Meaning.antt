@@ -2,22 +2,11 @@
 -- exactly the one fraction that equals the exact result, and 12 exactly where no fraction within the limit does. Comparison is
 -- the order of the rational numbers; floor is the greatest whole number at most the value and ceiling the least at least it.
 -- Assumes nothing.
-use Rattle.std.proofs.Math.Path.{◌≡◌, refl, ap, subst}
-use Rattle.std.proofs.Common.{sym, ◌∙◌, ap₂, inl, inr, mul-pos, pos_of_ne-zero, arith}
-use Rattle.std.specs.Prelude.{◌↔◌, ◌⊎◌, Bool, not, ◌&&◌, ℕ, ◌*◌, ◌≤◌, ◌<◌, T, eqb, ℤ, pos, negsuc, nat_abs, ◌*ℤ◌, ◌≤ℤ◌, ◌<ℤ◌}
-use Rattle.std.proofs.Math.Logic.{⊎_elim}
-use Rattle.std.proofs.Math.Bool.{true, false, cond}
-use borrow.Author.Tests.{not-true, ltb-true, leb-true, eqb-true, eqb-false, le-leb, lt-ltb, eq-eqb, ne_eqb}
-use Rattle.std.proofs.Math.Dec.{leb}
-use Rattle.std.specs.Int.Signed.{lt_z, lt_z_no}
-use Rattle.integers.specs.Integers.{≤ℤ_antisym}
-use Rattle.integers.specs.Gcd.{gcd}
-use Rattle.integers.specs.Coprime.{Coprime, coprime_of, coprime_common}
-use Rattle.integers.specs.Signs.{with_sign}
+use Rattle.std.proofs.Math.Path.{◌≡◌}
+use Rattle.std.specs.Prelude.{◌↔◌, ◌⊎◌, ℤ, ◌≤ℤ◌}
 use Rattle.arithmetic.specs.Outcome.{Outcome, gives, refuses}
-use Rattle.arithmetic.specs.Quotient.{Quotient, ◌≈◌, ◌≤Q◌, ◌<Q◌, ◌+Q◌, ◌*Q◌, whole_q, lowest, floor_q, ceiling_q}
-use Rattle.arithmetic.specs.QuotientLaws.{Positive}
-use Rattle.arithmetic.specs.Fraction.{limit, IsFraction, is_fraction, exact, within, on_fractions, reduced_of, product_of, sum_of, after, add_product_of, Order, less, equal, greater, order, order_q, compare_of, floor_of, ceiling_of}
+use Rattle.arithmetic.specs.Quotient.{Quotient, ◌≈◌, ◌≤Q◌, ◌<Q◌, whole_q}
+use Rattle.arithmetic.specs.Fraction.{IsFraction, exact, Order, less, equal, greater}
 use Rattle.arithmetic.specs.declared.Fraction.{Fraction}
 
 -- some fraction equals x; and x is too wide where none does
