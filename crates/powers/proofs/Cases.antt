@@ -1,6 +1,6 @@
 -- What is proved of the definitions in specs/Cases.antt.
 -- Assumes nothing.
-use Rattle.std.specs.Prelude.{◌≡◌, refl, List, [], ◌∷◌, ℕ}
+use Rattle.std.specs.Prelude.{refl}
 use Rattle.powers.specs.Powers.{power_of_ten}
 use Rattle.powers.specs.Cases.{All, cases}
 

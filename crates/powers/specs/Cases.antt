@@ -1,6 +1,6 @@
 -- Cases of powers of ten (document 02, request 6), on either side of the greatest.
 -- Assumes nothing.
-use Rattle.std.specs.Prelude.{◌≡◌, refl, List, [], ◌∷◌, ℕ}
+use Rattle.std.specs.Prelude.{◌≡◌, List, [], ◌∷◌, ℕ}
 use Rattle.powers.specs.Powers.{power_of_ten}
 
 -- a number, and its power of ten
