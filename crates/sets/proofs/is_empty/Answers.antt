@@ -6,14 +6,10 @@ use borrow.Author.Tests.{eqb-true, eq-eqb}
 use lib.Dec.{lit<}
 use Rattle.sets.specs.Sets.{bit}
 use Rattle.sets.specs.SetsLaws.{bit-zero, same_bits}
-use Rattle.sets.proofs.is_empty.Statement.{statement}
-use Rattle.sets.proofs.is_empty.Tie as tie
+use Rattle.sets.proofs.is_empty.Goals as goal
 
-returns : tie.Need-returns
+pub returns : goal.returns
 returns c = (
   (λ e k. ap (λ (x : ℕ). bit x k) (eqb-true _ _ e) ∙ bit-zero k),
   λ z. eq-eqb _ _ (same_bits 64 c.ranges.a.fits (lit< tt) (λ k. z k ∙ sym (bit-zero k))),
 )
-
-pub is_empty_spec : {M : Type 1} → statement M
-is_empty_spec = tie.close (tie.spec returns)
