@@ -9,6 +9,9 @@ crate follow. Prints the names of what moved, file by file.
 """
 import glob, os, re, sys
 
+# the proof of the sentence about points: what its files define serves their theorems
+WHOLE = {f"rules/specs/Sentence/{x}.antt" for x in ("Senses", "Scale", "Lines", "Denominators", "Sound", "Derive", "Meaning", "Spelled", "Worked", "Verified")}
+
 WORD = r"[^\s(){}\[\];,.:\"`⌜⌝@⟨⟩]+"
 
 def blocks(text):
@@ -117,7 +120,7 @@ def main(crates):
             if not q.startswith(f"crates/{crate}/specs/") and "/out/" not in q:
                 for k, n, b in blocks(open(q, encoding="utf-8").read()):
                     if k == "def": others |= tokens(b)
-        whole = set()
+        whole = {p for p in parsed if os.path.relpath(p, "crates") in WHOLE}
         change = True
         while change:
             change = False

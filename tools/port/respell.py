@@ -136,6 +136,7 @@ def main(dry):
     print(len(turned), "names,", bad, "fall together")
     if dry:
         return
+    turned["◌andThen◌"] = "◌and_then◌"  # an operator of words
     swap = lambda m: turned.get(m[0], m[0])
     for p in files("crates/**/*.antt", "crates/**/*.edit"):
         t = open(p, encoding="utf-8").read()

@@ -8,7 +8,7 @@ use Rattle.arithmetic.specs.declared.Fraction.{Fraction}
 use Rattle.grammar.specs.Tree.{Direction, End, infinite, finite, Tree}
 use Rattle.grammar.specs.declared.Refusal.{Refusal}
 use Rattle.rules.specs.Result as rules
-use Rattle.rules.specs.Result.{done, refused, fine, bind, ◌andThen◌, require, each}
+use Rattle.rules.specs.Result.{done, refused, fine, bind, ◌and_then◌, require, each}
 use Rattle.rules.specs.Tests.{some_of}
 use Rattle.rules.specs.Solutions.{holds, towards, check_solution, objectives_of, end_to_reach, reached}
 use Rattle.rules.specs.Check.{check_of}

@@ -3,7 +3,7 @@
 use Rattle.std.specs.Prelude.{List, length}
 use Rattle.arithmetic.specs.declared.Fraction.{Fraction}
 use Rattle.grammar.specs.Tree.{Tree}
-use Rattle.rules.specs.Result.{Verdict, ◌andThen◌, require, each_from}
+use Rattle.rules.specs.Result.{Verdict, ◌and_then◌, require, each_from}
 use Rattle.rules.specs.Solutions.{end_to_reach, reached}
 use Rattle.rules.specs.Derivations.{check_derivation}
 use Rattle.rules.specs.Claims.{last_row, is_proved, last_place}

@@ -19,7 +19,7 @@ use Rattle.tables.specs.declared.Pairs.{Pairs}
 use Rattle.grammar.specs.Tree.{Sense, Row, Multiplier, Unsplit, Reason, uns, Derivation, Tree}
 use Rattle.grammar.specs.Certificate.{ReasonWord, reason_cell, Detail, as_reason}
 use Rattle.rules.specs.Tests.{All, all_of, some_of}
-use Rattle.rules.specs.Result.{Result, done, refused, Verdict, fine, bind, ◌andThen◌, require, each_from}
+use Rattle.rules.specs.Result.{Result, done, refused, Verdict, fine, bind, ◌and_then◌, require, each_from}
 use Rattle.rules.specs.Rows.{Constraint, row_of, row_at}
 use Rattle.rules.specs.Combinations as rules
 use Rattle.rules.specs.Combinations.{is_suitable, sense_of, combine, suitable_combination}

@@ -6,7 +6,7 @@ use mathlib.Core.List.{List, [], ◌∷◌}
 use Prim.Native.Nat.{ℕ}
 use Rattle.grammar.specs.declared.Refusal.{Refusal}
 use Rattle.rules.specs.Tests.{all_of}
-use Rattle.rules.specs.Result.{Verdict, refused, fine, ◌andThen◌, require, each}
+use Rattle.rules.specs.Result.{Verdict, refused, fine, ◌and_then◌, require, each}
 use Rattle.verdicts.specs.Verdicts.{verdict_says}
 use Rattle.verdicts.specs.declared.Verdict as code
 use Rattle.verdicts.specs.declared.Verdict.TheVariants.{Fine, Refused}

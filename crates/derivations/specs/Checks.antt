@@ -9,7 +9,7 @@ use Rattle.tables.specs.Pairs.{listed_in}
 use Rattle.tables.specs.declared.Header.{Header}
 use Rattle.grammar.specs.Tree.{Row, Multiplier, Unsplit, Tree}
 use Rattle.rules.specs.Tests.{All}
-use Rattle.rules.specs.Result.{Verdict, ◌andThen◌, require}
+use Rattle.rules.specs.Result.{Verdict, ◌and_then◌, require}
 use Rattle.rules.specs.Rows.{variables, Constraint}
 use Rattle.rules.specs.Rounding.{can_be_rounded, rounded}
 use Rattle.rules.specs.Derivations.{check_dominates}

@@ -9,6 +9,7 @@ use Rattle.arithmetic.specs.declared.Fraction.{Fraction}
 use Rattle.tables.specs.Limits.{most_rows}
 use Rattle.tables.specs.Words as cell
 use Rattle.grammar.specs.Tree.{Integers, Term, TermList, Objective, Side, obj, listed, Row, Constraints, End, infinite, finite, Claim, infeas, range, Solution, Solutions, Multiplier, MultiplierList, Reason, asm, lin, rnd, uns, sol, Last, never, index, Derivation, Derivations, Tree}
+use Rattle.grammar.proofs.ByCases.{by_side, by_reason, by_last, by_end}
 use Rattle.grammar.specs.Format.{Or, instead, given, Symbol, word, placed, choice, number, name, row_name, value, or, Format, symbol, then, items, nothing, view}
 use Rattle.grammar.specs.Certificate.{Pair, pair, pair_list, of_term, of_multiplier, term_list, sense, sense_cell, Listed, listed_terms, side, row, row_names, multiplier_list, ReasonWord, assumptions, asm_word, lin_word, rnd_word, uns_word, sol_word, detail, Detail, reason, last, derivation, solution, end_or, ClaimWord, infeas_word, range_word, claim_cell, of_claim, Ends, ends, claim, direction_cell, section, variables, integers, objective_section, constraints, relation, solution_section, derivation_section, certificate}
 use Rattle.grammar.specs.Layout.{Mark, symbol_cells, symbol_values, symbol_marks, gather_items, gather, cells, values, marks_items, marks}
@@ -122,9 +123,9 @@ listed_lay n (given k) = pairs_lay n k
 side_lays : (n : ℕ) → Lays (side n) side_cells side_values (λ s. [])
 side_lays n =
     lays_as
-    (λ s. elim s [ obj ↦ refl | listed t ↦ ap (λ (l : List ℕ). t.count ∷ l) (all_map of_term (λ p. p.index) t.terms) ])
-    (λ s. elim s [ obj ↦ refl | listed t ↦ all_map of_term (λ p. p.value) t.terms ])
-    (λ s. elim s [ obj ↦ refl | listed t ↦ refl ])
+    (by_side _ refl (λ t. ap (λ (l : List ℕ). t.count ∷ l) (all_map of_term (λ p. p.index) t.terms)))
+    (by_side _ refl (λ t. all_map of_term (λ p. p.value) t.terms))
+    (by_side _ refl (λ t. refl))
     (view_lays (then_lays (symbol_lays (or _ _ (number _ _))) (λ k. listed_lay n k)))
 
 pub row_lays : (n own : ℕ) (used : List Bytes) → Lays (row n own used) row_index_cells row_values (λ r. own ∷ [])
@@ -158,14 +159,14 @@ detail_lays own sol_word = nothing_lays
 reason_lays : (own assumed : ℕ) → Lays (reason own assumed) reason_cells reason_values (λ r. [])
 reason_lays own assumed =
     lays_as
-    (λ r. elim r [ asm ↦ refl | lin m ↦ refl | rnd m ↦ refl | uns u ↦ refl | sol ↦ refl ])
-    (λ r. elim r [ asm ↦ refl | lin m ↦ refl | rnd m ↦ refl | uns u ↦ refl | sol ↦ refl ])
+    (by_reason _ refl (λ m. refl) (λ m. refl) (λ u. refl) refl)
+    (by_reason _ refl (λ m. refl) (λ m. refl) (λ u. refl) refl)
     (λ r. refl)
     (view_lays (then_lays (symbol_lays (choice _ _ _)) (λ w. detail_lays own w)))
 
 last_lays : (rows : ℕ) → Lays (last rows) (λ l. last_cell l ∷ []) (λ l. []) (λ l. [])
 last_lays rows =
-    lays_as (λ l. elim l [ never ↦ refl | index i ↦ refl ]) (λ l. elim l [ never ↦ refl | index i ↦ refl ]) (λ l. elim l [ never ↦ refl | index i ↦ refl ])
+    lays_as (by_last _ refl (λ i. refl)) (by_last _ refl (λ i. refl)) (by_last _ refl (λ i. refl))
     (view_lays (symbol_lays (or _ _ (number _ _))))
 
 pub derivation_lays : (n m : ℕ) (used : List Bytes) (d : ℕ) (before : List Derivation)
@@ -183,7 +184,7 @@ solution_lays n before = view_lays (then_lays (symbol_lays (row_name _ _)) (λ t
 
 end_lays : (w : Bytes) → Lays (end_or w) (λ e. end_cell e ∷ []) end_values (λ e. [])
 end_lays w =
-    lays_as (λ e. elim e [ infinite ↦ refl | finite f ↦ refl ]) (λ e. elim e [ infinite ↦ refl | finite f ↦ refl ]) (λ e. elim e [ infinite ↦ refl | finite f ↦ refl ])
+    lays_as (by_end _ refl (λ f. refl)) (by_end _ refl (λ f. refl)) (by_end _ refl (λ f. refl))
     (view_lays (symbol_lays (or _ _ (value _))))
 
 -- what follows the claim's word

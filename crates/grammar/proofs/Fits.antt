@@ -16,6 +16,7 @@ use Rattle.arithmetic.specs.declared.Fraction.{Fraction}
 use Rattle.numerals.specs.Spelling.{SpellsValue}
 use Rattle.numerals.proofs.Agreement.{value_read}
 use Rattle.grammar.specs.Tree.{Tree, Sense, Direction, Constraints, Solution}
+use Rattle.grammar.proofs.ByCases.{by_sense, by_claim_word, by_direction}
 use Rattle.grammar.specs.Format.{Word, Or, instead, given, Symbol, word, placed, choice, number, name, row_name, value, or, Format, symbol, then, items, nothing, view}
 use Rattle.grammar.specs.Spelling.{SymbolSpelled, ItemsSpelled, Spells}
 use Rattle.grammar.specs.Certificate.{count_to, index_below, plain_value, pair, pair_list, term_list, sense, listed_terms, side, row, unsplit, ReasonWord, asm_word, lin_word, rnd_word, uns_word, sol_word, reason_cell, detail, reason, last, assumptions, solution, end_or, ClaimWord, infeas_word, range_word, ends, claim, section, version, variables, integers, objective_section, constraints, relation, solution_section, derivation_section, certificate}
@@ -245,7 +246,7 @@ terms_narrow : (n : ℕ) → n ≤ 65535 → Narrow 0 0 (term_list n)
 terms_narrow n le = view_narrow (counted_narrow n le)
 
 sense_narrow : Narrow 1 0 sense
-sense_narrow = choice_narrow (λ a. elim a [ Sense.equal ↦ lit< tt | Sense.at_most ↦ lit< tt | Sense.at_least ↦ lit< tt ])
+sense_narrow = choice_narrow (by_sense _ (lit< tt) (lit< tt) (lit< tt))
 
 listed_narrow : (n : ℕ) → n ≤ 65535 → (k : Or ℕ) → Narrow 0 0 (listed_terms n k)
 listed_narrow n le instead = nothing_narrow
@@ -310,7 +311,7 @@ ends_narrow infeas_word = narrow_as 0 2 (omega arith) nothing_narrow
 ends_narrow range_word = then_narrow (end_narrow _) (λ lower us p. end_narrow _)
 
 claim_narrow : Narrow 1 2 claim
-claim_narrow = view_narrow (then_narrow (choice_narrow (λ a. elim a [ infeas_word ↦ lit< tt | range_word ↦ lit< tt ])) (λ w us p. ends_narrow w))
+claim_narrow = view_narrow (then_narrow (choice_narrow (by_claim_word _ (lit< tt) (lit< tt))) (λ w us p. ends_narrow w))
 
 relation_narrow : Narrow 0 0 relation
 relation_narrow = narrow_as 0 0 (omega arith) (view_narrow (then_narrow (symbol_narrow (placed _) tt) (λ p us q. claim_narrow)))
@@ -340,7 +341,7 @@ objective_narrow : (n : ℕ) → n ≤ most_variables → Narrow 0 0 (objective_
 objective_narrow n le =
     section_narrow _
     (narrow_as 0 0 (omega arith)
-    (view_narrow (then_narrow (choice_narrow (λ a. elim a [ Direction.minimize ↦ lit< tt | Direction.maximize ↦ lit< tt ])) (λ c us p. terms_narrow n (omega arith)))))
+    (view_narrow (then_narrow (choice_narrow (by_direction _ (lit< tt) (lit< tt))) (λ c us p. terms_narrow n (omega arith)))))
 
 constraints_narrow : (n : ℕ) → n ≤ most_variables → Narrow 0 0 (constraints n)
 constraints_narrow n le =

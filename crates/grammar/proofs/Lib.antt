@@ -9,6 +9,7 @@ pub mod Names
 pub mod Positions
 pub mod Ranges
 pub mod Rows
+pub mod ByCases
 pub mod SymbolAgreement
 pub mod Texts
 pub mod Unambiguous

@@ -65,13 +65,13 @@ found_spelled {A} (c ∷ ws) w a e = go (λ k. found_spelled ws w a k) (same w c
         let h = later k in
         record { entry = h.entry; listed = Memᴰ.tail h.listed; bytes = h.bytes; meaning = h.meaning }
 
-spelled_found : {A : Type 0} (ws : List (Word A)) (w : Bytes) (a : A) (c : Word A) → differ (bytes_of ws) ≡ true → Memᴰ c ws → w ≡ c.bytes → c.meaning ≡ a → meaning_of ws w ≡ some a
-spelled_found ws w a c d (Memᴰ.head {x = first} {xs = later} p) e m =
+spelled_found : {A : Type 0} (w : Bytes) (a : A) (c : Word A) (ws : List (Word A)) → differ (bytes_of ws) ≡ true → Memᴰ c ws → w ≡ c.bytes → c.meaning ≡ a → meaning_of ws w ≡ some a
+spelled_found w a c ws d (Memᴰ.head {x = first} {xs = later} p) e m =
     rw (e, ap (λ (x : Word _). same x.bytes first.bytes) p ∙ same_refl first.bytes) (ap some (sym (ap (λ (x : Word _). x.meaning) p) ∙ m))
-spelled_found {A} ws w a c d (Memᴰ.tail {x = first} {xs = later} k) e m =
+spelled_found {A} w a c ws d (Memᴰ.tail {x = first} {xs = later} k) e m =
     let h = both (not (is_among same first.bytes (bytes_of later))) (differ (bytes_of later)) d in
     let apart = not_among words first.bytes (bytes_of later) (not-true _ h.0) in
-    go apart (same w first.bytes) refl (spelled_found later w a c h.1 k e m)
+    go apart (same w first.bytes) refl (spelled_found w a c later h.1 k e m)
   where
     go : NoneOf first.bytes (bytes_of later) → (b : Bool) → same w first.bytes ≡ b → meaning_of later w ≡ some a → cond b (some first.meaning) (meaning_of later w) ≡ some a
     go apart true s f = absurd (apart (subst (λ (x : Bytes). Memᴰ x (bytes_of later)) (sym e ∙ same_true w first.bytes s) (Memᴰ.map (λ (x : Word A). x.bytes) k)))
@@ -113,9 +113,9 @@ digit_is : (b : ℕ) → is_digit b ≡ true → (48 ≤ b) × (b ≤ 57)
 unfolding is_digit
 digit_is b e = let h = both (leb 48 b) (leb b 57) e in (leb-true 48 b h.0, leb-true b 57 h.1)
 
-is_digit : (d : ℕ) → d < 10 → is_digit (48 + d) ≡ true
+is_digit_lem : (d : ℕ) → d < 10 → is_digit (48 + d) ≡ true
 unfolding is_digit
-is_digit d h = rw (le-leb 48 (48 + d) (omega arith), le-leb (48 + d) 57 (omega (arith, h)))
+is_digit_lem d h = rw (le-leb 48 (48 + d) (omega arith), le-leb (48 + d) 57 (omega (arith, h)))
 
 -- the number so far, times ten to the number of digits to come, and what these stand for
 in_decimal_lem : (n : ℕ) (ds : List ℕ) → number_after n (map (◌+◌ 48) ds) ≡ n * 10 ^ length ds + in_decimal ds
@@ -171,7 +171,7 @@ numeral_is (b ∷ w) e = numeral_digits (b ∷ w) e (omega arith)
 digits-every : (ds : List ℕ) → Each (λ (d : ℕ). d < 10) ds → every is_digit (map (◌+◌ 48) ds) ≡ true
 digits-every [] h = refl
 digits-every (d ∷ ds) h =
-    rw (is_digit d (h.holds d (Memᴰ.head refl))) (digits-every ds (record { holds = λ c m. h.holds c (Memᴰ.tail m) }))
+    rw (is_digit_lem d (h.holds d (Memᴰ.head refl))) (digits-every ds (record { holds = λ c m. h.holds c (Memᴰ.tail m) }))
 
 digits_numeral : (ds : List ℕ) → 0 < length ds → Each (λ (d : ℕ). d < 10) ds → is_numeral (map (◌+◌ 48) ds) ≡ true
 digits_numeral [] least h = absurd (omega (arith, least))
@@ -246,7 +246,7 @@ decode_complete (word w) t u c h = rw (h, same_refl w)
 decode_complete (placed w) t p c h = rw (h.0, same_refl w) (ap gives h.1)
 decode_complete (choice cell ws out) t a c h =
     let k = h.0 in
-    rw (spelled_found ws t.bytes a k.entry c k.listed k.bytes k.meaning, h.1)
+    rw (spelled_found t.bytes a k.entry ws c k.listed k.bytes k.meaning, h.1)
 decode_complete (number bound used) t n c h =
     rw (is_numeral_lem h.numeral, number_is h.numeral, lt-ltb n bound h.in_range, none_among numbers n used h.distinct)
 decode_complete name t n c h = rw (h.0, is_name_lem n.bytes h.1)

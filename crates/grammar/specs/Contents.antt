@@ -138,7 +138,7 @@ tree_values t =
     ++ derivations_values t.derivations)))
 
 -- as many numbers as the list has elements, from this one on
-abbrev pub up_from : ℕ → {A : Type 0} → List A → List ℕ
+abbrev pub up_from : {A : Type 0} → ℕ → List A → List ℕ
 up_from n [] = []
 up_from n (x ∷ xs) = n ∷ up_from (n + 1) xs
 

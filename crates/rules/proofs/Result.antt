@@ -4,7 +4,7 @@ use Rattle.std.specs.Prelude.{◌≡◌, refl, Bool, true, false, List, [], ◌�
 use Rattle.std.proofs.Common.{◌∙◌, ap, subst, arith}
 use Rattle.rules.specs.Tests.{Decides, All}
 use Rattle.rules.proofs.Tests.{not-true}
-use Rattle.rules.specs.Result.{Result, done, refused, Verdict, fine, bind, require, each, each_from, through, collect, Says, Gives, AllFrom, Through, Each}
+use Rattle.rules.specs.Result.{◌and_then◌, Result, done, refused, Verdict, fine, bind, require, each, each_from, through, collect, Says, Gives, AllFrom, Through, Each}
 
 -- ---- laws
 

@@ -4,7 +4,7 @@
 use Rattle.std.specs.Prelude.{◌≡◌, refl, Bool, true, false, not, ◌↔◌, ℕ, T, ℤ, pos, negsuc, nat_abs, ◌<ℤ◌}
 use Rattle.std.proofs.Math.Path.{sym}
 use Rattle.std.proofs.Common.{◌∙◌, ap, subst, ⊎_elim, arith}
-use Rattle.std.proofs.Math.Logic.{Iff·trans}
+use Rattle.std.proofs.Math.Logic.Iff.{trans as iff_trans}
 use Rattle.std.proofs.Math.Nat.{eq-one_of_dvd-one}
 use Rattle.std.proofs.Math.IntN.{zero-*ℤ}
 use Rattle.std.specs.Int.Signed.{lt_z}
@@ -136,10 +136,10 @@ within-refused place (refuses n) = ((λ e f g. absurd (let z : ◌≡◌ {A = �
 
 module _ (place : ℕ) (a b : Fraction) where
   pub gives_product : Gives (product_at place a b) (IsProduct a b)
-  gives_product f = Iff·trans (gives_within place (product_of a b) f) ((product-means a b).gives_exactly f)
+  gives_product f = iff_trans (gives_within place (product_of a b) f) ((product-means a b).gives_exactly f)
 
   pub gives_sum : Gives (sum_at place a b) (IsSum a b)
-  gives_sum f = Iff·trans (gives_within place (sum_of a b) f) ((sum_means a b).gives_exactly f)
+  gives_sum f = iff_trans (gives_within place (sum_of a b) f) ((sum_means a b).gives_exactly f)
 
   pub product_too_wide : (product_at place a b ≡ refused 12 place) ↔ ((p : Fraction) → IsProduct a b p → ⊥)
   product_too_wide =

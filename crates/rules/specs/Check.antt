@@ -2,7 +2,7 @@
 -- Assumes nothing.
 use Rattle.std.specs.Prelude.{length}
 use Rattle.grammar.specs.Tree.{Tree}
-use Rattle.rules.specs.Result.{Verdict, bind, ◌andThen◌, require, each, each_from}
+use Rattle.rules.specs.Result.{Verdict, bind, ◌and_then◌, require, each, each_from}
 use Rattle.rules.specs.Solutions.{check_solution, objectives_of, end_to_reach, reached}
 use Rattle.rules.specs.Derivations.{check_derivation}
 use Rattle.rules.specs.Claims.{last_row, is_proved, last_place}

@@ -7,7 +7,7 @@ use Rattle.arithmetic.specs.Laws.{zero_f}
 use Rattle.arithmetic.specs.declared.Fraction.{Fraction}
 use Rattle.grammar.specs.Tree.{Term, Sense, equal, at_most, at_least, Multiplier, Tree}
 use Rattle.rules.specs.Tests.{All, all_of, Some}
-use Rattle.rules.specs.Result.{Result, done, bind, ◌andThen◌, require, through, Through}
+use Rattle.rules.specs.Result.{Result, done, bind, ◌and_then◌, require, through, Through}
 use Rattle.rules.specs.Values.{zero_q, is_zero, is_positive, is_negative, IsProduct, IsSum, product_at, sum_at}
 use Rattle.rules.specs.Rows.{terms_of, Constraint, row_at}
 

@@ -5,7 +5,7 @@ use Rattle.std.proofs.Math.Option.{Option, none, some}
 use Rattle.arithmetic.specs.declared.Fraction.{Fraction}
 use Rattle.grammar.specs.Tree.{Row, Multiplier, Unsplit, Reason, asm, lin, rnd, uns, sol, Last, never, index, Derivation, Tree}
 use Rattle.rules.specs.Tests.{All}
-use Rattle.rules.specs.Result.{Verdict, fine, refused, bind, ◌andThen◌, require, each}
+use Rattle.rules.specs.Result.{Verdict, fine, refused, bind, ◌and_then◌, require, each}
 use Rattle.rules.specs.Rows.{variables, Constraint, constraint_of, objective_with, Entry, given_row, derived_row, entry_at, row_at}
 use Rattle.rules.specs.Solutions.{towards, Best, best_of}
 use Rattle.rules.specs.Domination.{Dominates, dominates}

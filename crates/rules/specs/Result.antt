@@ -24,8 +24,8 @@ bind (done a) next = next a
 bind (refused reason place) next = refused reason place
 
 -- the second, where the first has nothing to refuse
-infixr 5 ◌andThen◌
-abbrev pub ◌andThen◌ : {A : Type 0} → Verdict → Result A → Result A
+infixr 5 ◌and_then◌
+abbrev pub ◌and_then◌ : {A : Type 0} → Verdict → Result A → Result A
 (done u) and_then r = r
 (refused reason place) and_then r = refused reason place
 

@@ -3,9 +3,3 @@
 -- texts spell them; and three certificates, in whole numbers.
 pub mod Points
 pub mod Formed
-pub mod Senses
-pub mod Scale
-pub mod Lines
-pub mod Sound
-pub mod Derive
-pub mod Worked

@@ -6,7 +6,7 @@ use Rattle.arithmetic.specs.Laws.{zero_f}
 use Rattle.arithmetic.specs.declared.Fraction.{Fraction}
 use Rattle.grammar.specs.Tree.{Term, Sense, equal, at_most, at_least, Row, Direction, minimize, maximize, End, infinite, finite, Claim, infeas, range, Solution, Tree}
 use Rattle.rules.specs.Tests.{All, Some, In, some_of}
-use Rattle.rules.specs.Result.{Result, Verdict, bind, ◌andThen◌, require, each, through, collect, Through, Each}
+use Rattle.rules.specs.Result.{Result, Verdict, bind, ◌and_then◌, require, each, through, collect, Through, Each}
 use Rattle.rules.specs.Values.{Whole, is_whole, AtMost, Same, is_at_most, is_same, IsProduct, IsSum, product_at, sum_at}
 use Rattle.rules.specs.Rows.{value_in, objective, terms_of}
 

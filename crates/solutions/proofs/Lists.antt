@@ -8,7 +8,7 @@ use native.Mathlib.Numerals.{add-one}
 use lib.ListN.{length, drop, get_or, drop_of_length-le}
 use lib.Seq.{drop-cons}
 use Rattle.rules.specs.Tests.{some_of}
-use Rattle.rules.specs.Result.{Result, done, refused, Verdict, fine, bind, ◌andThen◌, each, collect}
+use Rattle.rules.specs.Result.{Result, done, refused, Verdict, fine, bind, ◌and_then◌, each, collect}
 
 drop-next : {A : Type 0} (xs : List A) (r : ℕ) (d : A) → r < length xs → drop r xs ≡ get_or xs r d ∷ drop (r + 1) xs
 drop-next xs r d h = rw (add-one, drop-cons xs r d)

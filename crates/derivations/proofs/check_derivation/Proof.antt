@@ -2,7 +2,7 @@
 use mathlib.Core.Path.{◌∙◌, ap}
 use borrow.Author.Rules.{rules}
 use borrow.Author.Tests.{not-true, not-false}
-use Rattle.rules.specs.Result.{Verdict, ◌andThen◌}
+use Rattle.rules.specs.Result.{Verdict, ◌and_then◌}
 use Rattle.rules.specs.Derivations.{named, check_reason, check_derivation}
 use Rattle.encoding.specs.Encodes.{derivation_at}
 use Rattle.derivations.proofs.Refusals.{require_on, require_stop, each-require}

@@ -1,4 +1,4 @@
--- What is proved of the definitions in specs/Sentence/Derive.antt.
+-- Every row holds at a feasible point where its assumptions hold, if the point is as good as the best listed solution.
 -- Assumes nothing.
 use Rattle.std.specs.Prelude.{◌≡◌, Bool, true, false, ltb, eqb, get_or, pos, ◌*ℤ◌}
 use Rattle.std.proofs.Math.Path.{refl, subst}
@@ -22,13 +22,10 @@ use Rattle.rules.specs.Assumptions.{HasReason, Assumes, itself, by_lin, by_rnd, 
 use Rattle.rules.specs.Derivations.{named, DominatesRow, ByReason, Derived}
 use Rattle.rules.specs.Sentence.Points.{Point, HoldsAt, FeasiblePoint}
 use Rattle.rules.specs.Sentence.Formed.{RowFormed, DerivationFormed, WellFormed}
-use Rattle.rules.specs.Sentence.Senses.{Rel}
-use Rattle.rules.proofs.Sentence.Senses.{rel_same}
-use Rattle.rules.specs.Sentence.Scale.{scaled, Fair}
-use Rattle.rules.proofs.Sentence.Scale.{fair, fair_whole}
-use Rattle.rules.specs.Sentence.Lines.{weight, line-terms}
-use Rattle.rules.specs.Sentence.Sound.{True, row_true, dominated_true, combination_true, rounded_true, split_true}
-use Rattle.rules.specs.Sentence.Derive.{Good}
+use Rattle.rules.proofs.Sentence.Senses.{Rel, rel_same}
+use Rattle.rules.proofs.Sentence.Scale.{scaled, Fair, fair, fair_whole}
+use Rattle.rules.proofs.Sentence.Lines.{weight, line-terms}
+use Rattle.rules.proofs.Sentence.Sound.{True, row_true, dominated_true, combination_true, rounded_true, split_true}
 
 -- ---- lists
 
@@ -54,6 +51,12 @@ in_map f a (x ∷ xs) (inr i) = inr (in_map f a xs i)
 
 no_row_formed : (tree : Tree) → RowFormed tree no_row
 no_row_formed tree = record { right_fraction = zero_is; terms_formed = tt }
+
+-- a point is as good as the best of these objectives, where there is one
+abbrev pub Good : Tree → List Fraction → Point → Type 0
+Good tree os x =
+    (best : Fraction) → Best tree.objective.direction os best
+    → Fair best × Rel (towards tree.objective.direction) (weight x (objective tree)) (scaled best *ℤ pos x.denominator)
 
 module _ (tree : Tree) (formed : WellFormed tree) (x : Point) (feasible : FeasiblePoint tree x)
     (os : List Fraction) (derived : AllFrom (Derived tree os) (length tree.constraints.rows) tree.derivations.derivations) where

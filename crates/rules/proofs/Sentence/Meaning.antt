@@ -24,15 +24,11 @@ use Rattle.rules.specs.Claims.{asked_by, LastProves, Answers}
 use Rattle.rules.specs.Meets.{Meets}
 use Rattle.rules.specs.Sentence.Points.{Point, coordinate, value_at, objective_at, Compares, HoldsAt, FeasiblePoint, IsPointOf, SolutionFeasible, EveryFeasible, SomeListed, IfFinite, ClaimTrue, Sentence}
 use Rattle.rules.specs.Sentence.Formed.{Formed, RowFormed, EndFormed, ClaimFormed, WellFormed}
-use Rattle.rules.specs.Sentence.Senses.{Rel}
-use Rattle.rules.proofs.Sentence.Senses.{rel_same, rel_eq, rel_times, rel_cancel}
-use Rattle.rules.specs.Sentence.Scale.{Scales, common, scaled, Fair}
-use Rattle.rules.proofs.Sentence.Scale.{scales_times, compares_scaled, common_positive, fair, scaled-zero, at_most_scaled, same-scaled, sum_scaled, product-scaled}
-use Rattle.rules.specs.Sentence.Lines.{weight, terms_compare, line-terms}
-use Rattle.rules.proofs.Sentence.Lines.{value_fraction}
-use Rattle.rules.specs.Sentence.Sound.{True, row_true, absurd_never, dominated_true}
-use Rattle.rules.specs.Sentence.Derive.{Good}
-use Rattle.rules.proofs.Sentence.Derive.{all_zip, row_formed, sound}
+use Rattle.rules.proofs.Sentence.Senses.{Rel, rel_same, rel_eq, rel_times, rel_cancel}
+use Rattle.rules.proofs.Sentence.Scale.{Scales, scales_times, compares_scaled, common, common_positive, scaled, Fair, fair, scaled-zero, at_most_scaled, same-scaled, sum_scaled, product-scaled}
+use Rattle.rules.proofs.Sentence.Lines.{value_fraction, weight, terms_compare, line-terms}
+use Rattle.rules.proofs.Sentence.Sound.{True, row_true, absurd_never, dominated_true}
+use Rattle.rules.proofs.Sentence.Derive.{all_zip, Good, row_formed, sound}
 
 -- ---- lists
 

@@ -1,8 +1,9 @@
--- What is proved of the definitions in specs/Sentence/Scale.antt.
+-- Fractions as whole numbers: their products with one number that every denominator within the limit divides. So the
+-- arithmetic of the rules becomes that of the integers, where equations are equations.
 -- Assumes nothing.
 use Rattle.std.specs.Prelude.{◌≡◌, refl, Bool, true, false, ◌↔◌, ℕ, zero, suc, ◌*◌, ◌/◌, ◌≤◌, ◌<◌, eqb, ℤ, pos, nat_abs, ◌+ℤ◌, ◌*ℤ◌, ◌≤ℤ◌}
 use Rattle.std.proofs.Common.{sym, ◌∙◌, ap, zero-lt-suc, mul-pos, div-one, arith, eqb-true}
-use Rattle.std.proofs.Math.Logic.{Iff·trans}
+use Rattle.std.proofs.Math.Logic.Iff.{trans as iff_trans}
 use Rattle.std.specs.Int.{◌∣◌}
 use Rattle.std.proofs.Math.Nat.{div-mul_cancel, dvd-mul_right, dvd-mul_left_of_dvd}
 use Rattle.std.proofs.lemmas.Bool.{eqb-false}
@@ -17,9 +18,13 @@ use Rattle.arithmetic.specs.declared.Fraction.{Fraction}
 use Rattle.grammar.specs.Tree.{Sense, equal, at_most, at_least}
 use Rattle.rules.specs.Values.{whole_f, AtMost, Same, IsProduct, IsSum}
 use Rattle.rules.specs.Sentence.Points.{Compares}
-use Rattle.rules.specs.Sentence.Senses.{Rel}
-use Rattle.rules.proofs.Sentence.Senses.{rel_same, rel_times, rel_cancel}
-use Rattle.rules.specs.Sentence.Scale.{Scales, factorial, common, scaled, Fair}
+use Rattle.rules.proofs.Sentence.Senses.{Rel, rel_same, rel_times, rel_cancel}
+
+-- ---- rational numbers times a whole number
+
+-- n is k times x
+abbrev pub Scales : ℕ → Quotient → ℤ → Type 0
+Scales k x n = n *ℤ pos x.bottom ≡ x.top *ℤ pos k
 
 pub scales_sum : (k : ℕ) (x y : Quotient) (m n : ℤ) → Scales k x m → Scales k y n → Scales k (x +Q y) (m +ℤ n)
 scales_sum k x y m n e f =
@@ -75,7 +80,13 @@ module _ (s : Sense) (k : ℕ) (x y : Quotient) (m n : ℤ) (pk : 0 < k) (px : P
   from_scaled h = rel_cancel s k _ _ pk (rel_same s (sym lefts) (sym rights) (rel_times s (x.bottom * y.bottom) m n h))
 
   pub compares_scaled : Compares s x y ↔ Rel s m n
-  compares_scaled = Iff·trans (crossed s x y) (to_scaled, from_scaled)
+  compares_scaled = iff_trans (crossed s x y) (to_scaled, from_scaled)
+
+-- ---- the number
+
+factorial : ℕ → ℕ
+factorial zero = 1
+factorial (suc n) = suc n * factorial n
 
 factorial_positive : (n : ℕ) → 0 < factorial n
 unfolding factorial
@@ -91,6 +102,10 @@ factorial_divides (suc n) d h l = go (λ (k : d ≤ n). factorial_divides n d h 
     go f true e = rw (eqb-true d (suc n) e) (dvd-mul_right (suc n) (factorial n))
     go f false e = dvd-mul_left_of_dvd d (f (omega (arith, eqb-false d (suc n) e))) (suc n)
 
+-- every denominator within the limit divides it; nothing else is known of it
+pub common : ℕ
+common = factorial limit
+
 pub common_positive : 0 < common
 unfolding common
 common_positive = factorial_positive limit
@@ -98,6 +113,20 @@ common_positive = factorial_positive limit
 common_divides : (d : ℕ) → 0 < d → d ≤ limit → d ∣ common
 unfolding common
 common_divides d h l = factorial_divides limit d h l
+
+-- ---- fractions times that number
+
+unfoldable pub scaled : Fraction → ℤ
+scaled f = f.num *ℤ pos (common / nat_abs f.den)
+
+-- the denominator is positive, and `times f` is k times f
+pub record FairBy (k : ℕ) (times : Fraction → ℤ) (f : Fraction) : Type 0 where
+  pub positive : Positive (exact f)
+  pub scales : Scales k (exact f) (times f)
+
+-- with that number: so it is of a fraction, and of a whole number of any size
+abbrev pub Fair : Fraction → Type 0
+Fair f = FairBy common scaled f
 
 pub fair : (f : Fraction) → IsFraction f → Fair f
 unfolding scaled

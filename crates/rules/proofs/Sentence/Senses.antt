@@ -1,4 +1,4 @@
--- What is proved of the definitions in specs/Sentence/Senses.antt.
+-- Senses as relations of whole numbers: what sums and factors do to them.
 -- Assumes nothing.
 use Rattle.std.specs.Prelude.{◌≡◌, ℕ, ◌<◌, ℤ, pos, ◌+ℤ◌, ◌*ℤ◌, ◌≤ℤ◌}
 use Rattle.std.proofs.Common.{sym, ap, subst}
@@ -6,7 +6,11 @@ use Rattle.std.proofs.Math.IntN.{*ℤ_comm}
 use Rattle.integers.specs.Signs.{*ℤ_cancel}
 use Rattle.integers.specs.Integers.{*ℤ_mono, *ℤ_le_cancel, +ℤ_mono, ≤ℤ_of_eq}
 use Rattle.grammar.specs.Tree.{Sense, equal, at_most, at_least}
-use Rattle.rules.specs.Sentence.Senses.{Rel}
+
+abbrev pub Rel : Sense → ℤ → ℤ → Type 0
+Rel equal x y = x ≡ y
+Rel at_most x y = x ≤ℤ y
+Rel at_least x y = y ≤ℤ x
 
 pub rel_same : (s : Sense) {x x' y y' : ℤ} → x ≡ x' → y ≡ y' → Rel s x y → Rel s x' y'
 rel_same s {x} {x'} {y} {y'} e f h = subst (λ (z : ℤ). Rel s x' z) f (subst (λ (z : ℤ). Rel s z y) e h)

@@ -1,8 +1,9 @@
--- What is proved of the definitions in specs/Sentence/Worked.antt.
+-- The sentence of three certificates in whole numbers: what the definitions of Points.antt come to where the problem is small.
+-- All are verified, by computation; what is said of numerators and denominators is taken from the sentence and from nothing else.
 -- Assumes nothing.
 use Rattle.std.specs.Prelude.{◌≡◌, refl, List, [], ◌∷◌, ◌↔◌, ℕ, zero, suc, ◌<◌, ℤ, pos, negsuc, ◌+ℤ◌, ◌*ℤ◌, ◌≤ℤ◌}
 use Rattle.std.proofs.Common.{sym, ◌∙◌, ap, subst, arith}
-use Rattle.std.proofs.Math.Logic.{Iff·trans}
+use Rattle.std.proofs.Math.Logic.Iff.{trans as iff_trans}
 use Rattle.std.proofs.Math.IntN.{+ℤ_idr}
 use Rattle.text.specs.Bytes.{Bytes, is_separator, is_printable, is_digit}
 use Rattle.text.specs.Comments.{comments_end}
@@ -33,12 +34,10 @@ use Rattle.rules.specs.Claims.{is_proved}
 use Rattle.rules.specs.Check.{check_of}
 use Rattle.rules.specs.Worked.{verdict, one_integer, mixed}
 use Rattle.rules.specs.Sentence.Points.{Point, value_at, Compares, FeasiblePoint, Sentence, SentenceOf}
-use Rattle.rules.specs.Sentence.Senses.{Rel}
-use Rattle.rules.proofs.Sentence.Senses.{rel_same}
-use Rattle.rules.specs.Sentence.Scale.{FairBy}
-use Rattle.rules.specs.Sentence.Lines.{sum_by, FairTerms, sum_compares}
+use Rattle.rules.proofs.Sentence.Senses.{Rel, rel_same}
+use Rattle.rules.proofs.Sentence.Scale.{FairBy}
+use Rattle.rules.proofs.Sentence.Lines.{sum_by, FairTerms, sum_compares}
 use Rattle.rules.proofs.Sentence.Verified.{verified_means}
-use Rattle.rules.specs.Sentence.Worked.{branching, pruned}
 
 -- ---- rows with whole coefficients at a point
 
@@ -76,7 +75,7 @@ module _ (numerator : ℕ → ℤ) (D : ℕ) (positive : 0 < D) where
   -- a left side compares with a whole b exactly as the sum does with b D
   compares : (s : Sense) (ts : List Term) → FairTerms over 1 (λ f. f.num) ts → (b : ℤ) → Compares s (value_at ts over) (whole_q b) ↔ Rel s (total ts) (b *ℤ pos D)
   compares s ts h b =
-      Iff·trans (sum_compares over 1 (λ f. f.num) (omega arith) s ts (whole_f b) h (whole b))
+      iff_trans (sum_compares over 1 (λ f. f.num) (omega arith) s ts (whole_f b) h (whole b))
       (rel_same s (total_sum ts) refl, rel_same s (sym (total_sum ts)) refl)
 
 -- ---- what a verified text says of the tree that it is read as
@@ -96,6 +95,21 @@ module _ (text : Bytes) (verified : verdict (read_of text) ≡ fine) where
 
   says : Sentence (tree_of (read_of text))
   says = subst Sentence (sym (ap tree_of (read_complete text means.tree means.spelled))) means.sentence
+
+-- ---- the certificates
+
+-- `example` is 01's: maximize x, an integer variable, with 2 x ≤ 3, by rounding; the claim is `range 1 1`
+
+-- 2 x ≥ 1 and 2 x ≤ 1, x an integer variable, by branching on x ≤ 0 or x ≥ 1; the claim is `infeas`
+abbrev pub branching : Bytes
+branching =
+    one_integer "OBJ min 0\nCON 2 0 R1 G 1 1 0 2 R2 L 1 1 0 2\nRTP infeas\nSOL 0\nDER 5\nA1 L 0 1 0 1 { asm } -1\nA2 G 1 1 0 1 { asm } -1\nD1 G 1 0 { lin 2 0 1 2 -2 } -1\nD2 L -1 0 { lin 2 1 1 3 -2 } -1\nD3 G 1 0 { uns 4 2 5 3 } -1\n"
+
+-- minimize y with 2 x + y ≥ 3 and y ≥ x, x an integer variable, by branching and the bound y ≤ 1 of the solution (`sol`), which
+-- does not hold at every feasible point; the claim is `range 1 1`
+abbrev pub pruned : Bytes
+pruned =
+    mixed "OBJ min 1 1 1\nCON 2 0 R1 G 3 2 0 2 1 1 R2 G 0 2 0 -1 1 1\nRTP range 1 1\nSOL 1 a 2 0 1 1 1\nDER 6\nS1 L 1 OBJ { sol } -1\nA1 L 0 1 0 1 { asm } -1\nA2 G 1 1 0 1 { asm } -1\nD1 G 2 0 { lin 3 0 1 3 -2 2 -1 } -1\nD2 G 1 1 1 1 { lin 2 1 1 4 1 } -1\nD3 G 1 OBJ { uns 5 3 6 4 } -1\n"
 
 all_verified : (verdict (read_of example) ≡ fine) × ((verdict (read_of branching) ≡ fine) × (verdict (read_of pruned) ≡ fine))
 unfolding read_of comments_end rest stream_at read is_separator is_printable is_digit read_value outcome_of narrowed quotient_of lowest floor_z ceiling_z gcd euclid is_fraction on_fractions within order check_of value_in constraint_of objective_with entries entry_at left_side check_row check_solution objectives_of is_absurd same_coefficients dominates is_suitable sense_of next_combination combine suitable_combination is_integral can_be_rounded rounded is_split is_proper_split sets_of assumptions_of check_lin check_rnd check_uns check_derivation is_proved

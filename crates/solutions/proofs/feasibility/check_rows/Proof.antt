@@ -3,7 +3,7 @@ use mathlib.Core.Path.{◌≡◌, refl, sym, ap, subst, ◌∙◌}
 use Prim.Native.Nat.{◌+◌, ◌-◌}
 use lib.ListN.{drop, get_or}
 use Rattle.grammar.specs.Tree.{Solution, Tree}
-use Rattle.rules.specs.Result.{◌andThen◌, each}
+use Rattle.rules.specs.Result.{◌and_then◌, each}
 use Rattle.rules.specs.Rows.{row_of, no_row}
 use Rattle.rules.specs.Solutions.{check_row}
 use Rattle.encoding.specs.Encodes.{EncodesRow, Encodes}

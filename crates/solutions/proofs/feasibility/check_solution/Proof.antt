@@ -3,7 +3,7 @@ use mathlib.Core.Path.{◌≡◌, sym, ap, ◌∙◌}
 use Prim.Native.Nat.{◌<◌}
 use Rattle.grammar.specs.Tree.{Tree}
 use Rattle.rules.specs.Result as result
-use Rattle.rules.specs.Result.{◌andThen◌, each}
+use Rattle.rules.specs.Result.{◌and_then◌, each}
 use Rattle.rules.specs.Solutions.{check_row, check_solution}
 use Rattle.encoding.specs.Encodes.{solution_at, Encodes}
 use Rattle.verdicts.specs.Verdicts.{verdict_says}

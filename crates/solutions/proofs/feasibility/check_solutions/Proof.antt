@@ -3,7 +3,7 @@ use mathlib.Core.Path.{◌≡◌, refl, sym, ap, ◌∙◌}
 use Prim.Native.Nat.{◌+◌, ◌-◌}
 use lib.ListN.{drop}
 use Rattle.grammar.specs.Tree.{Tree}
-use Rattle.rules.specs.Result.{◌andThen◌, each}
+use Rattle.rules.specs.Result.{◌and_then◌, each}
 use Rattle.rules.specs.Solutions.{check_solution}
 use Rattle.encoding.specs.Encodes.{no_solution, Encodes}
 use Rattle.encoding.proofs.EncodesLaws.{solutions_are}

@@ -6,7 +6,7 @@ use lib.ListN.{length, drop, get_or}
 use borrow.Author.Tests.{not-true, not-false}
 use Rattle.arithmetic.specs.declared.Fraction.{Fraction}
 use Rattle.grammar.specs.Tree.{Solution}
-use Rattle.rules.specs.Result.{refused, ◌andThen◌, require, each}
+use Rattle.rules.specs.Result.{refused, ◌and_then◌, require, each}
 use Rattle.rules.specs.Values.{is_whole}
 use Rattle.solutions.specs.Points.{IsPoint, whole_at}
 use Rattle.solutions.proofs.Lists.{Checking, checking_is, checking_end}
