@@ -1,6 +1,6 @@
 // No bytes: the program prints `refused 3 1`.
 #![tactic(auto)]
 
-fn main() {
-    program::run();
+fn main(rt: HostRuntime) {
+    program::run(&mut rt.stdin(), &mut rt.stdout(), &mut rt.stderr());
 }

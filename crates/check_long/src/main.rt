@@ -2,6 +2,6 @@
 // be verified.
 #![tactic(auto)]
 
-fn main() {
-    program::run();
+fn main(rt: HostRuntime) {
+    program::run(&mut rt.stdin(), &mut rt.stdout(), &mut rt.stderr());
 }

@@ -2,12 +2,15 @@
 // reason C and line L in decimal.
 #![tactic(auto)]
 
-ghost use Rattle.std.specs.Prelude.{◌≡◌, take};
+ghost use Rattle.std.specs.Prelude.{◌≡◌, take, pos};
+ghost use Rattle.std.specs.Io.KnownBytes.{Consumes, IsAtEnd};
 ghost use Rattle.program.specs.Line.{printed};
 ghost use Rattle.program.specs.Transcript.{InputAnswered};
 
 mod input;
 mod line;
+
+use std::io::{Read, Write};
 
 // The room for a text: one byte more than a text may have, so that what is cut off is never hidden. What fills it is too long.
 pub const ROOM: usize = 32769;
@@ -23,27 +26,39 @@ pub struct Transcript {
     pub size: usize,
 }
 
-// Writes the line for what came. Where it cannot be written, that is reported on standard error.
-fn write_line(text: &[u8; ROOM], came: usize, line: &[u8])
+// Writes the line for what came. Where it cannot be written, that is reported on `errors`.
+fn write_line<W: Write, E: Write>(
+    output: &mut W,
+    errors: &mut E,
+    text: &[u8; ROOM],
+    came: usize,
+    line: &[u8],
+)
     requires { line.now ≡ printed (take came text.now) }
 {
-    if !io::write_all(1, line) {
-        io::write_all(2, b"vipr_check: standard output cannot be written\n");
+    if output.write_all(line).is_err() {
+        let _ = errors.write_all(b"vipr_check: standard output cannot be written\n");
     }
 }
 
-// Reads standard input, verifies what came, and writes the line. Where standard input cannot be read, that is reported on standard
-// error, and no line is written.
-pub fn run() -> Transcript
-    ensures { InputAnswered result }
+// Reads standard input, verifies what came, and writes the line to standard output. Where standard input cannot be read, that is
+// reported on standard error, and no line is written.
+pub fn run<R: Read, W: Write, E: Write>(
+    input: &mut R,
+    output: &mut W,
+    errors: &mut E,
+) -> Transcript
+    ensures answered { InputAnswered result }
+    ensures bytes { Consumes (R.remaining input.old) (R.remaining input.new) (take result.came result.text) }
+    ensures ended { result.last ≡ pos 0 → IsAtEnd (R.remaining input.new) }
 {
     let mut text = [0u8; ROOM];
     let mut line = [0u8; 50];
-    let input = input::read_input(&mut text);
-    let came = input.came;
-    let last = input.last;
+    let read = input::read_input(input, &mut text);
+    let came = read.came;
+    let last = read.last;
     if last < 0 {
-        io::write_all(2, b"vipr_check: standard input cannot be read\n");
+        let _ = errors.write_all(b"vipr_check: standard input cannot be read\n");
         return Transcript {
             text: text,
             came: came,
@@ -53,7 +68,7 @@ pub fn run() -> Transcript
         };
     }
     let size = line::answer(&text, came, &mut line);
-    write_line(&text, came, &line[..size]);
+    write_line(output, errors, &text, came, &line[..size]);
     Transcript {
         text: text,
         came: came,

@@ -2,6 +2,6 @@
 // line L in decimal.
 #![tactic(auto)]
 
-fn main() {
-    program::run();
+fn main(rt: HostRuntime) {
+    program::run(&mut rt.stdin(), &mut rt.stdout(), &mut rt.stderr());
 }
