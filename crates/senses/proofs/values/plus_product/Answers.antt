@@ -8,19 +8,14 @@ use Rattle.arithmetic.specs.Fraction.{product_of, sum_of, after}
 use Rattle.arithmetic.proofs.Meaning.{product_then_sum}
 use Rattle.rules.specs.Result.{bind}
 use Rattle.rules.specs.Values.{within12, sum_at}
-use Rattle.senses.proofs.values.plus_product.Statement.{statement}
-use Rattle.senses.proofs.values.plus_product.Tie as tie
+use Rattle.senses.proofs.values.plus_product.Goals as goal
 
 in_two : (place : ℕ) (sum : Fraction) (product : Outcome Fraction) → within12 place (after product (sum_of sum)) ≡ bind (within12 place product) (λ p. sum_at place sum p)
 in_two place sum (gives p) = refl
 in_two place sum (refuses n) = refl
 
-returns : tie.Need-returns
+pub returns : goal.returns
 returns c =
     λ u v w place.
-    let s = c.before in
-    ap (within12 place) (c.add-product.ensures (search rules) (search rules) (search rules) ∙ product_then_sum s.args.sum s.args.a s.args.b (u, v, w))
-    ∙ in_two place s.args.sum (product_of s.args.a s.args.b)
-
-pub plus_product_spec : {M : Type 1} → statement M
-plus_product_spec = tie.close (tie.spec (λ c. search rules) returns)
+    ap (within12 place) (c.add_product.ensures (search rules) (search rules) (search rules) ∙ product_then_sum c.args.sum c.args.a c.args.b (u, v, w))
+    ∙ in_two place c.args.sum (product_of c.args.a c.args.b)
