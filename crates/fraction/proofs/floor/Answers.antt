@@ -1,0 +1,15 @@
+-- `fraction::floor` meets its contract.
+use mathlib.Core.Path.{sym, ◌∙◌}
+use borrow.Author.Rules.{rules}
+use Rattle.arithmetic.proofs.Meaning.{fraction_is, floor_answers}
+use Rattle.arithmetic.proofs.Ways.{not_fractions}
+use Rattle.fraction.proofs.Promised.{meant}
+use Rattle.fraction.proofs.floor.Goals as goal
+
+pub returns-then-is_fraction : goal.returns-then-is_fraction
+returns-then-is_fraction c =
+    let a = c.args.a in
+    meant (floor_answers a) (c.floor.ensures (fraction_is a (sym c.is_fraction.ensures ∙ c.if-is_fraction.true)))
+
+pub returns-else-is_fraction : goal.returns-else-is_fraction
+returns-else-is_fraction c = meant (floor_answers c.args.a) (sym (not_fractions _ _ (sym c.is_fraction.ensures ∙ c.if-is_fraction.false)))
