@@ -57,8 +57,11 @@ abbrev pub Tested : {A : Type 0} → Symbol A → (A → ℕ) → Bytes → Span
 Tested y of text t r (Next n c) = TestedAt y of text t c r
 Tested y of text t r (Stop q p) = r ≡ Stop q p
 
+pub record TestedBy {A : Type 0} (y : Symbol A) (of : A → ℕ) (text : Bytes) (t : Span) (s r : Step) : Type 0 where
+  pub holds : Tested y of text t r s
+
 module _ {A : Type 0} {y : Symbol A} {of : A → ℕ} {text : Bytes} {s : Step} {t : Span} {m : Meaning} {r : Step} where
-  pub tested : Due text s t → (t.from < t.to → Means y of (token_at text t) m) → Given s (Passed t m r) → Given s (Tested y of text t r)
+  pub tested : Due text s t → (t.from < t.to → Means y of (token_at text t) m) → Given s (Passed t m r) → TestedBy y of text t s r
   tested due means passed = record { holds = by s due.first.holds passed.holds }
     where
       by_meaning : (c : Cursor) (o : Outcome A) (m : Meaning) → Found text c.at t.from t.to → decode y (token_at text t) ≡ o → Said of o m → Answered c t r m → TestedAt y of text t c r
@@ -89,7 +92,16 @@ passed_went {y = y} {text = text} {t} {c} {ix = ix} {vs} {rs} nc nv nm g room =
     (omega (arith, ap (λ (z : Cursor). z.cells) g.next)) (omega (arith, ap (λ (z : Cursor). z.values) g.next)) refl refl refl tt (omega arith)
     (omega (arith, ap (λ (z : Cursor). z.values) g.next, room.of_values.values_fit))
 
-module _ {A : Type 0} {y : Symbol A} {of : A → ℕ} {text : Bytes} {s : Step} {t : Span} {r : Step} (test : Given s (Tested y of text t r)) where
+-- its own refusal
+own_refusal : {A : Type 0} (y : Symbol A) (o : Stream) (k p : ℕ) → read_symbol y o ≡ stopped k p → refused y o ≡ stopped k p
+own_refusal y (end size) k p e = e
+own_refusal {A} y (token place bytes o) k p e = go (decode y (record { place = place; bytes = bytes })) e
+  where
+    go : (d : Outcome A) → kept d place o ≡ stopped k p → ◌≡◌ {A = Read A} (stopped (refusal_of d) place) (stopped k p)
+    go (gives a) e = let z : ◌≡◌ {A = ℕ} 0 1 = cc in absurd (omega arith)
+    go (refuses r) e = e
+
+module _ {A : Type 0} {y : Symbol A} {of : A → ℕ} {text : Bytes} {s : Step} {t : Span} {r : Step} (test : TestedBy y of text t s r) where
   -- it takes nothing
   pub passed_follows : ((a : A) → symbol_cells y a ≡ []) → ((a : A) → symbol_values y a ≡ []) → ((a : A) (i v : ℕ) → symbol_marks y a i v ≡ [])
       → {Q : ℕ → State → Type 0} {ix : List ℕ} {vs : List ℤ} {rs : List ℕ} → Follows Q (λ n. symbol y) (the of) text s ix vs rs ix vs rs r
@@ -191,15 +203,6 @@ module _ {A : Type 0} {y : Symbol A} {of : A → ℕ} {text : Bytes} {s : Step} 
 
   -- ---- without room
 
-  -- its own refusal
-  own_refusal : (o : Stream) (k p : ℕ) → read_symbol y o ≡ stopped k p → refused y o ≡ stopped k p
-  own_refusal (end size) k p e = e
-  own_refusal (token place bytes o) k p e = go (decode y (record { place = place; bytes = bytes })) e
-    where
-      go : (d : Outcome A) → kept d place o ≡ stopped k p → ◌≡◌ {A = Read A} (stopped (refusal_of d) place) (stopped k p)
-      go (gives a) e = let z : ◌≡◌ {A = ℕ} 0 1 = cc in absurd (omega arith)
-      go (refuses r) e = e
-
   pub stored_refuses : {X : Type 0} {room : ℕ → Cursor → Type 0} {full : Cursor → Type 0} {on : Cursor → Cursor} {stored : ℕ → Cursor → X} {table table' : X} {r' : Step} → Given r (Storing room full t.from on stored table table' r')
       → {lacks : Cursor → Type 0} {same : Type 0} → ((c : Cursor) → Found text c.at t.from t.to → lacks c → full (past t c)) → (table' ≡ table → same) → Refuses lacks y text s same r'
   stored_refuses {X} {room} {full} {on} {stored} {table} {table'} {r'} store {lacks} {same} keeps is_same = record { is = by s r test.holds store.holds }
@@ -210,5 +213,5 @@ module _ {A : Type 0} {y : Symbol A} {of : A → ℕ} {text : Bytes} {s : Step} 
           let l = st.stays (subst full (sym g.next) (keeps c g.found h)) in
           (subst (Is (refused y (rest text c.at))) (sym l.0) (rw (g.found.first, g.means) refl), is_same l.1)
       by (Next n c) (Stop q p) e st =
-          λ h. (subst (Is (refused y (rest text c.at))) (sym st.0) (own_refusal (rest text c.at) (refusal_number q) p e), is_same st.1)
+          λ h. (subst (Is (refused y (rest text c.at))) (sym st.0) (own_refusal y (rest text c.at) (refusal_number q) p e), is_same st.1)
       by (Stop q p) z e st = tt
