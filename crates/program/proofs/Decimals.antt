@@ -1,15 +1,13 @@
--- A number's fewest digits are the number in decimal, and those of a number of 64 bits are at most 20.
+-- A number's fewest digits are the number in decimal.
 -- Assumes nothing.
 use mathlib.Core.Path.{◌≡◌, refl, sym, ◌∙◌, ap, subst}
 use mathlib.Core.Bool.{Bool, true, false, cond}
-use mathlib.Core.List.{List, [], ◌∷◌, ◌++◌}
-use Prim.Native.Nat.{ℕ, zero, suc, ◌+◌, ◌-◌, ◌*◌, ◌/◌, ◌%◌, ◌^◌, ◌≤◌, ◌<◌}
+use mathlib.Core.List.{[], ◌∷◌, ◌++◌}
+use Prim.Native.Nat.{ℕ, zero, suc, ◌+◌, ◌*◌, ◌/◌, ◌%◌, ◌^◌, ◌≤◌, ◌<◌}
 use native.Mathlib.Nat.{pow-le-pow_right, pow-suc, mod-lt, mod-eq_of_lt, div-lt_iff_lt-mul, le-div_iff_mul-le, div-lt_self}
 use native.Mathlib.Omega.{arith}
 use borrow.Author.Tests.{ltb-true, ltb-false}
 use lib.Dec.{ltb, lit<}
-use mir.Syntax.{w64}
-use mir.Val.{Fits}
 use Rattle.io.specs.Digits.{hex_digit_ascii, last_digits, IsDigitCount}
 use Rattle.text.specs.Bytes.{Bytes}
 use Rattle.program.specs.Line.{decimal_by, decimal}
@@ -62,13 +60,3 @@ spelled (suc (suc k)) (suc most) n h f =
 
 pub fewest_decimal : (n k : ℕ) → IsDigitCount 10 1 n k → last_digits 10 k n ≡ decimal n
 fewest_decimal n k f = spelled k (suc n) n (omega arith) f
-
-pub few : (n k : ℕ) → Fits w64 n → IsDigitCount 10 1 n k → k ≤ 20
-few n k small f = go (ltb 20 k) refl
-  where
-    go : (t : Bool) → ltb 20 k ≡ t → k ≤ 20
-    go false e = ltb-false 20 k e
-    go true e =
-        let h = ltb-true 20 k e in
-        let wide = pow-le-pow_right {n = 10} (lit< tt) {i = 20} {j = k - 1} (omega (arith, h)) in
-        absurd (omega (arith, wide, f.2 (omega (arith, h)), small.fits))

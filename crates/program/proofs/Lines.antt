@@ -1,12 +1,11 @@
 -- Lines, part after part.
 -- Assumes nothing.
 use mathlib.Core.Path.{◌≡◌, sym, ◌∙◌, ap}
-use mathlib.Core.List.{List, ◌++◌}
-use Prim.Native.Nat.{ℕ, ◌≤◌, min}
-use native.Mathlib.Omega.{arith, min_cases}
-use lib.ListN.{length, take, length-take}
+use mathlib.Core.List.{◌++◌}
+use Prim.Native.Nat.{ℕ, min}
+use native.Mathlib.Omega.{min_cases}
+use lib.ListN.{length, take}
 use lib.Seq.{take_all, take-length}
-use Rattle.io.specs.Counts.{IsPrefixLen}
 use Rattle.text.specs.Bytes.{Bytes}
 use Rattle.tables.specs.Limits.{index_cells, value_cells, row_cells}
 use Rattle.reader.specs.Promise.{course_of}
@@ -21,10 +20,6 @@ extended part known h = h ∙ ap (λ (l : Bytes). l ++ part) known
 pub five_parts : {l₁ l₂ l₃ l₄ l₅ : Bytes} (a b c d e : Bytes)
     → l₁ ≡ a → l₂ ≡ l₁ ++ b → l₃ ≡ l₂ ++ c → l₄ ≡ l₃ ++ d → l₅ ≡ l₄ ++ e → l₅ ≡ (((a ++ b) ++ c) ++ d) ++ e
 five_parts a b c d e h₁ h₂ h₃ h₄ h₅ = extended e (extended d (extended c (extended b h₁ h₂) h₃) h₄) h₅
-
--- a number of bytes that the line has
-pub counted : (n : ℕ) (line : Bytes) → n ≤ length line → IsPrefixLen n line
-counted n line h = (h, omega (arith, length-take n line))
 
 -- the line for the answer of verifying a text, with tables of as many cells as needed
 pub line_of : (text : Bytes) {line : Bytes} {a : Answer} {i v r : ℕ} → i ≡ index_cells → v ≡ value_cells → r ≡ row_cells

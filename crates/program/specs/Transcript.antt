@@ -1,6 +1,6 @@
 -- THE PROMISE of the program: "reads standard input and prints one line" (document 01, "What the kit offers").
--- No contract can say what a call of the C library's `read` or `write` reads or writes. So the promise is about the transcript of a
--- run: the bytes that its reads left in the room for the text, and the bytes that it handed over to be written.
+-- No contract can say what the system's standard input gives, and what becomes of what is written. So the promise is about the
+-- transcript of a run: the bytes that its reads left in the room for the text, and the bytes that it handed over to be written.
 -- Assumes nothing.
 use Rattle.std.specs.Prelude.{ℕ, [], ◌≡◌, ℤ, pos, negsuc, get_or, length, take}
 use Rattle.std.proofs.Common.{ap, arith}

@@ -43,11 +43,7 @@ fn write_line<W: Write, E: Write>(
 
 // Reads standard input, verifies what came, and writes the line to standard output. Where standard input cannot be read, that is
 // reported on standard error, and no line is written.
-pub fn run<R: Read, W: Write, E: Write>(
-    input: &mut R,
-    output: &mut W,
-    errors: &mut E,
-) -> Transcript
+pub fn run<R: Read, W: Write, E: Write>(input: &mut R, output: &mut W, errors: &mut E) -> Transcript
     ensures answered { InputAnswered result }
     ensures bytes { Consumes (R.remaining input.old) (R.remaining input.new) (take result.came result.text) }
     ensures ended { result.last ≡ pos 0 → IsAtEnd (R.remaining input.new) }
