@@ -3,56 +3,54 @@
 // other sizes.
 #![tactic(auto)]
 
-ghost use Rattle.std.specs.Prelude.{◌≤◌, length};
+ghost use Rattle.std.specs.Prelude.{◌≤◌, length, IfOk};
 
 use reader::Reading;
+use std::io;
+use std::io::{Print, Read};
 use tables::{Header, Pairs};
 
-fn put(bytes: &[u8]) {
-    io::write_all(1, bytes);
+fn put(out: &impl Print, bytes: &[u8]) -> io::Result<()> {
+    out.write_all(bytes)
 }
 
-fn number(n: usize) {
-    io::print_decimal(1, n as u64);
+fn number(out: &impl Print, n: usize) -> io::Result<()> {
+    out.print(n)
 }
 
-fn cell(n: u16) {
-    put(b" ");
-    io::print_decimal(1, n as u64);
+fn cell(out: &impl Print, n: u16) -> io::Result<()> {
+    put(out, b" ")?;
+    out.print(n)
 }
 
 // The cells from .. to of a table.
-fn cells(table: &[u16], from: usize, to: usize) {
+fn cells(out: &impl Print, table: &[u16], from: usize, to: usize) -> io::Result<()> {
     let mut i = from;
     while i < to {
         if i < table.len() {
-            cell(table[i]);
+            cell(out, table[i])?;
         }
         i += 1;
     }
-    put(b"\n");
+    put(out, b"\n")
 }
 
 // A cell of the value table; of a negative number only the sign.
-fn value_cell(n: i32) {
-    put(b" ");
-    if n < 0 {
-        put(b"-");
-    } else {
-        io::print_decimal(1, n as u64);
-    }
+fn value_cell(out: &impl Print, n: i32) -> io::Result<()> {
+    put(out, b" ")?;
+    if n < 0 { put(out, b"-") } else { out.print(n) }
 }
 
 // The cells from .. to of the value table.
-fn value_cells(table: &[i32], from: usize, to: usize) {
+fn value_cells(out: &impl Print, table: &[i32], from: usize, to: usize) -> io::Result<()> {
     let mut i = from;
     while i < to {
         if i < table.len() {
-            value_cell(table[i]);
+            value_cell(out, table[i])?;
         }
         i += 1;
     }
-    put(b"\n");
+    put(out, b"\n")
 }
 
 // A cell from a place on is not 0.
@@ -67,65 +65,65 @@ fn is_filled(table: &[u16], from: usize) -> bool {
     false
 }
 
-fn rest(table: &[u16], from: usize) {
+fn rest(out: &impl Print, table: &[u16], from: usize) -> io::Result<()> {
     if is_filled(table, from) {
-        put(b" some others are not 0\n");
+        put(out, b" some others are not 0\n")
     } else {
-        put(b" all others are 0\n");
+        put(out, b" all others are 0\n")
     }
 }
 
-fn field(name: &[u8], n: usize) {
-    put(name);
-    number(n);
+fn field(out: &impl Print, name: &[u8], n: usize) -> io::Result<()> {
+    put(out, name)?;
+    number(out, n)
 }
 
 // The objective: whether it is maximized, and where its terms stand.
-fn objective(maximize: bool, terms: Pairs) {
+fn objective(out: &impl Print, maximize: bool, terms: Pairs) -> io::Result<()> {
     if maximize {
-        put(b", max");
+        put(out, b", max")?;
     } else {
-        put(b", min");
+        put(out, b", min")?;
     }
-    field(b" ", terms.cell);
-    field(b" ", terms.number);
-    field(b" ", terms.count);
+    field(out, b" ", terms.cell)?;
+    field(out, b" ", terms.number)?;
+    field(out, b" ", terms.count)
 }
 
-fn taken(h: Header) {
-    field(b": taken, variables ", h.variables);
-    field(b", integers ", h.integers);
+fn taken(out: &impl Print, h: Header) -> io::Result<()> {
+    field(out, b": taken, variables ", h.variables)?;
+    field(out, b", integers ", h.integers)?;
     let terms = h.objective;
-    objective(h.maximize, terms);
-    field(b", given ", h.given);
-    field(b", rows ", h.rows);
-    field(b", solutions ", h.solutions);
-    field(b", claim ", h.claim);
-    field(b" ", h.ends);
-    field(b", RTP at ", h.relation);
-    field(b", DER at ", h.derivation);
-    put(b"\n");
+    objective(out, h.maximize, terms)?;
+    field(out, b", given ", h.given)?;
+    field(out, b", rows ", h.rows)?;
+    field(out, b", solutions ", h.solutions)?;
+    field(out, b", claim ", h.claim)?;
+    field(out, b" ", h.ends)?;
+    field(out, b", RTP at ", h.relation)?;
+    field(out, b", DER at ", h.derivation)?;
+    put(out, b"\n")
 }
 
-fn refused(reason: usize, line: usize) {
-    put(b": refused ");
-    number(reason);
-    put(b" ");
-    number(line);
-    put(b"\n");
+fn refused(out: &impl Print, reason: usize, line: usize) -> io::Result<()> {
+    put(out, b": refused ")?;
+    number(out, reason)?;
+    put(out, b" ")?;
+    number(out, line)?;
+    put(out, b"\n")
 }
 
-fn answer(r: Reading) {
+fn answer(out: &impl Print, r: Reading) -> io::Result<()> {
     match r {
-        Reading::Taken(h) => taken(h),
-        Reading::Refused(reason, line) => refused(grammar::number(reason) as usize, line),
+        Reading::Taken(h) => taken(out, h),
+        Reading::Refused(reason, line) => refused(out, grammar::number(reason) as usize, line),
     }
 }
 
 // Eight cells of a table from a cell on.
-fn eight(table: &[u16], at: u16) {
+fn eight(out: &impl Print, table: &[u16], at: u16) -> io::Result<()> {
     let from = at as usize;
-    cells(table, from, from + 8);
+    cells(out, table, from, from + 8)
 }
 
 // A certificate of 1,024 rows was taken.
@@ -138,30 +136,31 @@ fn has_all_rows(r: Reading) -> bool {
 
 // Of such a certificate: the first cells of the index table and those of the last row; of the row table rows 0 and 1, 511 and 512,
 // 1,022 and 1,023, and the first solution; and cells of the value table.
-fn chosen(index: &[u16], values: &[i32], rows: &[u16]) {
-    cells(index, 0, 12);
+fn chosen(out: &impl Print, index: &[u16], values: &[i32], rows: &[u16]) -> io::Result<()> {
+    cells(out, index, 0, 12)?;
     if 4094 < rows.len() {
-        eight(index, rows[4094]);
+        eight(out, index, rows[4094])?;
     }
-    cells(rows, 0, 8);
-    cells(rows, 2044, 2052);
-    cells(rows, 4088, 4100);
-    value_cells(values, 0, 8);
-    value_cells(values, 2044, 2052);
-    value_cells(values, 3584, 3600);
+    cells(out, rows, 0, 8)?;
+    cells(out, rows, 2044, 2052)?;
+    cells(out, rows, 4088, 4100)?;
+    value_cells(out, values, 0, 8)?;
+    value_cells(out, values, 2044, 2052)?;
+    value_cells(out, values, 3584, 3600)
 }
 
 // Reads a text into tables of the cells needed that are not empty, and writes the answer under a name.
-fn case(name: &[u8], text: &[u8]) {
+fn case(out: &impl Print, name: &[u8], text: &[u8]) -> io::Result<()> {
     let mut index = [7u16; 16384];
     let mut values = [7i32; 16384];
     let mut rows = [7u16; 4352];
-    put(name);
+    put(out, name)?;
     let r = reader::read_certificate(text, &mut index, &mut values, &mut rows);
-    answer(r);
+    answer(out, r)?;
     if has_all_rows(r) {
-        chosen(&index, &values, &rows);
+        chosen(out, &index, &values, &rows)?;
     }
+    Ok(())
 }
 
 // The place of the next mark from a place on, or the text's end.
@@ -180,111 +179,147 @@ fn next(text: &[u8], from: usize, mark: &[u8]) -> usize
 }
 
 // Each case of a text: a line with `=`, a space and its name, and then its text, up to the LF before the next such line.
-fn cases(text: &[u8]) {
+fn cases(out: &impl Print, text: &[u8]) -> io::Result<()> {
     let mut at = 0;
     while at < text.len() {
         let name_end = next(text, at, b"\n");
         let end = next(text, name_end, b"\n=");
         case(
+            out,
             text::part(text, at + 2, name_end),
             text::part(text, name_end + 1, end),
-        );
+        )?;
         at = end + 1;
     }
+    Ok(())
 }
 
 // 01's example: its 24 index cells and the cell after them, rows 0, 1 and 1,024, and the cells after them.
-fn example() {
+fn example(out: &impl Print) -> io::Result<()> {
     let mut index = [7u16; 16385];
     let mut values = [7i32; 16385];
     let mut rows = [7u16; 4353];
-    put(b"the tables");
-    answer(reader::read_certificate(
+    put(out, b"the tables")?;
+    let r = reader::read_certificate(
         b"VER 1.0\nVAR 1\nx\nINT 1\n0\nOBJ max\n1 0 1\nCON 1 0\nR1 L 3 1 0 2\nRTP range 1 1\nSOL 1\na 1 0 1\nDER 1\nD1 L 1 OBJ { rnd 1 0 1/2 } -1\n",
         &mut index,
         &mut values,
         &mut rows,
-    ));
-    cells(&index, 0, 25);
-    rest(&index, 24);
-    cells(&rows, 0, 12);
-    cells(&rows, 4092, 4104);
-    rest(&rows, 4100);
+    );
+    answer(out, r)?;
+    cells(out, &index, 0, 25)?;
+    rest(out, &index, 24)?;
+    cells(out, &rows, 0, 12)?;
+    cells(out, &rows, 4092, 4104)?;
+    rest(out, &rows, 4100)
 }
 
 // Reads a text into these tables, and writes the answer and their first cells.
-fn into(name: &[u8], text: &[u8], index: &mut [u16], values: &mut [i32], rows: &mut [u16]) {
-    put(name);
-    answer(reader::read_certificate(text, index, values, rows));
-    cells(index, 0, 2);
-    cells(rows, 0, 2);
+fn into(
+    out: &impl Print,
+    name: &[u8],
+    text: &[u8],
+    index: &mut [u16],
+    values: &mut [i32],
+    rows: &mut [u16],
+) -> io::Result<()> {
+    put(out, name)?;
+    answer(out, reader::read_certificate(text, index, values, rows))?;
+    cells(out, index, 0, 2)?;
+    cells(out, rows, 0, 2)
 }
 
 // Tables of one cell less than needed, and a text of one byte more.
-fn small_index() {
+fn small_index(out: &impl Print) -> io::Result<()> {
     let text = [32u8; 32769];
     let mut index = [7u16; 16383];
     let mut values = [7i32; 16384];
     let mut rows = [7u16; 4352];
     into(
+        out,
         b"an index table of 16,383 cells",
         &text,
         &mut index,
         &mut values,
         &mut rows,
-    );
+    )
 }
 
-fn small_values() {
+fn small_values(out: &impl Print) -> io::Result<()> {
     let text = [32u8; 32769];
     let mut index = [7u16; 16384];
     let mut values = [7i32; 16383];
     let mut rows = [7u16; 4352];
     into(
+        out,
         b"a value table of 16,383 cells",
         &text,
         &mut index,
         &mut values,
         &mut rows,
-    );
+    )
 }
 
-fn small_rows() {
+fn small_rows(out: &impl Print) -> io::Result<()> {
     let text = [32u8; 32769];
     let mut index = [7u16; 16384];
     let mut values = [7i32; 16384];
     let mut rows = [7u16; 4351];
     into(
+        out,
         b"a row table of 4,351 cells",
         &text,
         &mut index,
         &mut values,
         &mut rows,
-    );
+    )
 }
 
-fn long_text() {
+fn long_text(out: &impl Print) -> io::Result<()> {
     let text = [32u8; 32769];
     let mut index = [7u16; 16384];
     let mut values = [7i32; 16384];
     let mut rows = [7u16; 4352];
-    into(b"32,769 bytes", &text, &mut index, &mut values, &mut rows);
     into(
+        out,
+        b"32,769 bytes",
+        &text,
+        &mut index,
+        &mut values,
+        &mut rows,
+    )?;
+    into(
+        out,
         b"32,768 bytes",
         &text[0..32768],
         &mut index,
         &mut values,
         &mut rows,
-    );
+    )
 }
 
-fn main() {
-    let mut input = io::large_buffer();
-    let n = io::read_full(0, &mut input);
-    cases(&input[..n]);
-    example();
-    small_index();
-    small_values();
-    small_rows();
-    long_text();
+// Reads until the room is full or the input ends, and answers how many bytes came, at the start of the room.
+fn read_full<R: Read>(input: &mut R, room: &mut [u8]) -> io::Result<usize>
+    ensures { IfOk result (λ n. n ≤ length room.new) }
+{
+    let mut done = 0;
+    while done < room.len() {
+        let more = input.read(&mut room[done..])?;
+        if more == 0 {
+            break;
+        }
+        done += more;
+    }
+    Ok(done)
+}
+
+fn main(rt: HostRuntime) -> io::Result<()> {
+    let mut input = [0u8; 65536];
+    let n = read_full(&mut rt.stdin(), &mut input)?;
+    cases(&rt, &input[..n])?;
+    example(&rt)?;
+    small_index(&rt)?;
+    small_values(&rt)?;
+    small_rows(&rt)?;
+    long_text(&rt)
 }
