@@ -11,23 +11,19 @@ use Rattle.rules.specs.Domination.{is_absurd}
 use Rattle.senses.proofs.Truth.{and_first, and_neither}
 use Rattle.linear.specs.Lists.{terms_in}
 use Rattle.linear.proofs.ListedLaws.{every-listed}
-use Rattle.linear.proofs.domination.is_absurd.Statement.{statement}
-use Rattle.linear.proofs.domination.is_absurd.Tie as tie
+use Rattle.linear.proofs.domination.is_absurd.Goals as goal
 
-returns : tie.Need-returns
+pub returns-then-fails_at_zero : goal.returns-then-fails_at_zero
 unfolding is_absurd
-returns c =
+returns-then-fails_at_zero c =
     λ n formed.
-    c.all-zero.ensures
+    c.all_zero.ensures
     ∙ every-listed n _ formed (λ (v : ℕ) (f : Fraction). is_zero (exact f)) (λ v. refl)
-    ∙ and_first _ c.before.before.fails-at-zero.ensures c.before.if1.true
+    ∙ and_first _ c.fails_at_zero.ensures c.if-fails_at_zero.true
 
-returns-2 : tie.Need-returns-2
+pub returns-else-fails_at_zero : goal.returns-else-fails_at_zero
 unfolding is_absurd
-returns-2 c =
+returns-else-fails_at_zero c =
     λ n formed.
-    let a = c.before.before.before.args in
-    and_neither (every_below n (λ v. is_zero (exact (value_in (terms_in a.variables.now a.parts.now) v)))) c.before.fails-at-zero.ensures c.if1.false
-
-pub is_absurd_spec : {M : Type 1} → statement M
-is_absurd_spec = tie.close (tie.spec (λ c. search rules) (λ c. search rules) returns returns-2)
+    let a = c.args in
+    and_neither (every_below n (λ v. is_zero (exact (value_in (terms_in a.variables.now a.parts.now) v)))) c.fails_at_zero.ensures c.if-fails_at_zero.false
