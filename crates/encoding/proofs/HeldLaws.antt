@@ -22,7 +22,7 @@ use Rattle.grammar.specs.Ranges.{SideInRange, DerivationInRange, TreeInRange}
 use Rattle.grammar.proofs.Ranges.{tree_in_range}
 use Rattle.grammar.specs.Rows.{Kept, RowAt, objective_at, claim_at, claim_values_at}
 use Rattle.grammar.proofs.Rows.{given-kept, derived_kept, solution-kept, row_found, sections_stand}
-use Rattle.grammar.specs.Rows as grammar
+use Rattle.grammar.proofs.Rows as grammar
 use Rattle.grammar.specs.Tables.{by_turns}
 use Rattle.rules.specs.Tests.{All}
 use Rattle.rules.specs.Result.{AllFrom}

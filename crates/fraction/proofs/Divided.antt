@@ -1,11 +1,11 @@
 -- Common divisors of an operand's parts and of a result's: the first divide the second, and they are found by them.
 -- Assumes nothing.
 use mathlib.Core.Path.{◌≡◌, refl, sym, ◌∙◌, ap, subst}
-use Prim.Native.Nat.{ℕ, ◌*◌, ◌/◌, ◌%◌, ◌<◌, ◌∣◌}
+use Prim.Native.Nat.{ℕ, ◌*◌, ◌%◌, ◌<◌, ◌∣◌}
 use native.Mathlib.Nat.{dvd_trans, dvd_antisymm, dvd-mul_left_of_dvd, dvd-mul_right_of_dvd, eq-one_of_dvd-one, div-one}
 use borrow.Author.Tests.{eq-eqb}
 use mathlib.Core.Bool.{true}
-use lib.IntN.{ℤ, pos, nat_abs, ◌*ℤ◌, ◌+ℤ◌}
+use lib.IntN.{ℤ, pos, nat_abs, ◌*ℤ◌}
 use Rattle.integers.specs.Signs.{nat_abs-with_sign, nat_abs_mul}
 use Rattle.integers.specs.Gcd.{gcd, gcd-left, gcd_right, gcd_greatest, gcd-step}
 use Rattle.integers.specs.Binary.{gcd_comm}

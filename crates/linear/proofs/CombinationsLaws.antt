@@ -3,15 +3,12 @@
 use mathlib.Core.Path.{◌≡◌, refl, sym, ◌∙◌, ap, ap₂, subst}
 use mathlib.Core.Bool.{Bool, true, false, cond}
 use mathlib.Core.List.{List, ◌∷◌}
-use mathlib.Core.Logic.{◌⊎◌}
 use Prim.Native.Nat.{ℕ, ◌+◌, ◌≤◌, ◌<◌}
 use native.Mathlib.Omega.{arith}
-use denote.Enum.Declared.{tag_of}
 use lib.Dec.{eqb}
 use lib.IntN.{ℤ}
 use lib.ListN.{length, get_or, set, length-set}
 use Rattle.arithmetic.specs.Fraction.{IsFraction}
-use Rattle.arithmetic.specs.contracts.Arithmetic.{the_type}
 use Rattle.arithmetic.specs.declared.Arithmetic.{Arithmetic}
 use Rattle.arithmetic.specs.declared.Arithmetic.TheVariants.{Value}
 use Rattle.arithmetic.specs.declared.Fraction.{Fraction}
@@ -22,13 +19,14 @@ use Rattle.grammar.specs.Tree.{Term}
 use Rattle.rules.specs.Result.{Result, done, refused, bind, through}
 use Rattle.rules.specs.Values.{product_at, sum_at}
 use Rattle.rules.specs.Combinations.{Combination, with_coefficient, add_multiple, next_combination}
-use Rattle.senses.proofs.ArithmeticLaws.{says, is_refused, plus_product, plus_product_is, bind_assoc}
+use Rattle.senses.proofs.ArithmeticLaws.{says, plus_product, plus_product_is, bind_assoc}
 use Rattle.linear.specs.Lists.{a_term, terms_in}
 use Rattle.linear.specs.ListsLaws.{listed_from, listed_next, listed_none}
 use Rattle.linear.specs.Coefficients.{coefficients_of, AreFractions}
 use Rattle.linear.specs.Combinations.{within, combination_of, combination_says, HasFractions, Takes}
 use Rattle.linear.specs.declared.combinations.Combination.{Combination as Code}
 use Rattle.linear.proofs.CoefficientsLaws.{a_fraction, coefficients_set, not-zero}
+use Rattle.linear.proofs.Refusals.{no_value}
 use Rattle.linear.proofs.Going.{Going, first_is, going_on, going_stop, going_end}
 
 -- ---- one term
@@ -185,12 +183,12 @@ module _ (variables : List ℕ) (parts : List ℤ) (right factor : Fraction) (st
           added i = term_is i.place factor (coefficients_of c.nums c.dens) v (fraction_at parts k) (given i) ∙ ap done (sym (stored i))
 
       -- a sum that is too wide
-      pub combining_stop : (tag_of the_type answer ≡ 1) ⊎ (tag_of the_type answer ≡ 2) → (i : At) → refused 12 i.place ≡ next_of i
+      pub combining_stop : ((x : Fraction) → answer ≡ Value x → ⊥) → (i : At) → refused 12 i.place ≡ next_of i
       combining_stop t i =
           stops i.place (next_combination i.place factor terms right) start.fits
           (next_stops i.place factor terms right (combination_of start)
           (going_stop Asked Good step with_terms next g.going i 12 i.place
-          (term_is i.place factor (coefficients_of c.nums c.dens) v (fraction_at parts k) (sum_says i ∙ is_refused answer t i.place))))
+          (term_is i.place factor (coefficients_of c.nums c.dens) v (fraction_at parts k) (sum_says i ∙ no_value answer t i.place))))
 
   -- where branches have met
   pub combining_same : {c d : Code} {k : ℕ} → d ≡ c → Combining c k → Combining d k
@@ -222,7 +220,7 @@ module _ (variables : List ℕ) (parts : List ℤ) (right factor : Fraction) (st
     combined_fractions f t i =
         record { coefficients = g.going.good i; right = plus_product_is i.place start.right factor right f (right_says i ∙ ap (says i.place) t) }
 
-    pub combined_not : (tag_of the_type answer ≡ 1) ⊎ (tag_of the_type answer ≡ 2) → (i : At) → refused 12 i.place ≡ next_of i
+    pub combined_not : ((x : Fraction) → answer ≡ Value x → ⊥) → (i : At) → refused 12 i.place ≡ next_of i
     combined_not t i =
         stops i.place (next_combination i.place factor terms right) start.fits
-        (next_by i.place factor terms right (combination_of start) (all-terms i) (right_says i ∙ is_refused answer t i.place))
+        (next_by i.place factor terms right (combination_of start) (all-terms i) (right_says i ∙ no_value answer t i.place))

@@ -1,5 +1,6 @@
 -- Laws over plain values that the functions' proofs cite, in reading order; those marked `pub` serve the crates above too.
 mod CoefficientsLaws
+mod Refusals
 mod Going
 mod TestsLaws
 mod PointsLaws

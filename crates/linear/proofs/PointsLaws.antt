@@ -2,15 +2,12 @@
 -- Assumes nothing.
 use mathlib.Core.Path.{◌≡◌, refl, sym, ◌∙◌, ap, ap₂, subst}
 use mathlib.Core.List.{List, ◌∷◌}
-use mathlib.Core.Logic.{◌⊎◌}
 use Prim.Native.Nat.{ℕ, ◌+◌, ◌≤◌, ◌<◌}
-use denote.Enum.Declared.{tag_of}
 use lib.IntN.{ℤ}
 use lib.ListN.{get_or}
 use Rattle.arithmetic.specs.Fraction.{IsFraction}
 use Rattle.arithmetic.specs.Laws.{zero_f}
 use Rattle.arithmetic.proofs.Laws.{zero_is}
-use Rattle.arithmetic.specs.contracts.Arithmetic.{the_type}
 use Rattle.arithmetic.specs.declared.Arithmetic.{Arithmetic}
 use Rattle.arithmetic.specs.declared.Arithmetic.TheVariants.{Value}
 use Rattle.arithmetic.specs.declared.Fraction.{Fraction}
@@ -21,10 +18,11 @@ use Rattle.grammar.specs.Tree.{Term}
 use Rattle.rules.specs.Result.{Result, done, refused, through}
 use Rattle.rules.specs.Rows.{value_in}
 use Rattle.rules.specs.Solutions.{left_side}
-use Rattle.senses.proofs.ArithmeticLaws.{says, is_refused, plus_product, plus_product_is}
+use Rattle.senses.proofs.ArithmeticLaws.{says, plus_product, plus_product_is}
 use Rattle.linear.specs.Lists.{a_term, terms_in, TermsBelow}
 use Rattle.linear.specs.ListsLaws.{listed_from, listed_next, listed_none}
 use Rattle.linear.specs.Coefficients.{AreFractions}
+use Rattle.linear.proofs.Refusals.{no_value}
 use Rattle.linear.proofs.Going.{Going, first_is, going_on, going_stop, going_end}
 
 -- one term
@@ -80,8 +78,8 @@ module _ (variables : List ℕ) (parts : List ℤ) (point : ℕ → Fraction) wh
         going_on Asked Good step sum_of next g
         (λ i. (step_gives v i, plus_product_is i.place sum (fraction_at parts k) (point (get_or variables k 0)) t (step_gives v i)))
 
-    pub adding_stop : (tag_of the_type answer ≡ 1) ⊎ (tag_of the_type answer ≡ 2) → (i : At) → refused 12 i.place ≡ sum_of i
-    adding_stop t i = going_stop Asked Good step sum_of next g i 12 i.place (sym (step-says i) ∙ is_refused answer t i.place)
+    pub adding_stop : ((x : Fraction) → answer ≡ Value x → ⊥) → (i : At) → refused 12 i.place ≡ sum_of i
+    adding_stop t i = going_stop Asked Good step sum_of next g i 12 i.place (sym (step-says i) ∙ no_value answer t i.place)
 
   pub adding_end : {sum : Fraction} {k : ℕ} → Adding sum k → pairs_in variables parts ≤ k → (i : At) → done sum ≡ sum_of i
   adding_end {k = k} g h i = going_end Asked Good step sum_of (listed_none a_term variables parts k h) g i

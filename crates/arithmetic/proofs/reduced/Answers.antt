@@ -21,10 +21,10 @@ returns-then-d-eq1 c =
     ∙ sym (on_fractions_lem _ _ (ap not (ne_eqb a.d 0 c.if-d-eq0.false)))
 
 pub nonzero_div-n : goal.nonzero_div-n
-nonzero_div-n c = divisor_positive c.args.n c.args.d c.gcd-g.result (omega (arith, c.if-d-eq0.false)) c.gcd-g.ensures
+nonzero_div-n c = divisor_positive _ c.args.d _ (omega (arith, c.if-d-eq0.false)) c.gcd-g.ensures
 
 pub nonzero_div-d : goal.nonzero_div-d
-nonzero_div-d c = divisor_positive c.args.n c.args.d c.gcd-g.result (omega (arith, c.if-d-eq0.false)) c.gcd-g.ensures
+nonzero_div-d c = divisor_positive _ c.args.d _ (omega (arith, c.if-d-eq0.false)) c.gcd-g.ensures
 
 pub returns : goal.returns
 returns c =

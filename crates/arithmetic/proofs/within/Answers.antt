@@ -9,12 +9,12 @@ use Rattle.arithmetic.proofs.Ways.{wide_num, wide_den, narrow}
 use Rattle.arithmetic.proofs.within.Goals as goal
 
 pub returns-then-n-gt-LIMIT : goal.returns-then-n-gt-LIMIT
-returns-then-n-gt-LIMIT c = sym (wide_num c.args.negative c.args.n c.args.d c.if-n-gt-LIMIT.true)
+returns-then-n-gt-LIMIT c = sym (wide_num c.args.negative c.args.n c.args.d (omega arith))
 
 pub returns-then-d-gt-LIMIT : goal.returns-then-d-gt-LIMIT
 returns-then-d-gt-LIMIT c =
     let s = c.args in
-    sym (wide_den s.negative s.n s.d (omega arith) c.if-d-gt-LIMIT.true)
+    sym (wide_den s.negative s.n s.d (omega arith) (omega arith))
 
 pub returns : goal.returns
 returns c =

@@ -1,6 +1,5 @@
 -- `fraction::add_product` meets its contract: all three are tested before anything is worked out.
 use mathlib.Core.Path.{sym, ◌∙◌}
-use borrow.Author.Rules.{rules}
 use Rattle.arithmetic.proofs.Meaning.{all_are, add-product-means}
 use Rattle.arithmetic.proofs.Ways.{not_fractions}
 use Rattle.fraction.proofs.Promised.{meant}

@@ -1,6 +1,5 @@
 -- `fraction::both` meets its contract: pairs that are shaped are fractions if they are in lowest terms.
 use mathlib.Core.Path.{sym, ◌∙◌}
-use borrow.Author.Rules.{rules}
 use Rattle.arithmetic.proofs.Ways.{Told}
 use Rattle.fraction.proofs.Tested.{both_shaped, not_both_shaped}
 use Rattle.fraction.proofs.both.Goals as goal

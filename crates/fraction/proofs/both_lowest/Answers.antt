@@ -1,9 +1,7 @@
 -- `fraction::both_lowest` meets its contract: a whole number is in lowest terms; of others one loop tells it.
-use mathlib.Core.Path.{◌≡◌, sym, ◌∙◌}
-use mathlib.Core.Bool.{true}
-use borrow.Author.Rules.{rules}
+use mathlib.Core.Path.{sym, ◌∙◌}
 use Rattle.fraction.specs.Results.{in_lowest_terms}
-use Rattle.fraction.proofs.Tested.{whole-lowest-terms, found_one, found_more, found_test, true_first, true_second, first_false}
+use Rattle.fraction.proofs.Tested.{whole-lowest-terms, true_first, true_second}
 use Rattle.fraction.proofs.both_lowest.Goals as goal
 
 pub returns-then-p-eq1 : goal.returns-then-p-eq1

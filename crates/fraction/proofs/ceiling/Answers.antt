@@ -1,6 +1,5 @@
 -- `fraction::ceiling` meets its contract.
 use mathlib.Core.Path.{sym, ◌∙◌}
-use borrow.Author.Rules.{rules}
 use Rattle.arithmetic.proofs.Meaning.{fraction_is, ceiling_answers}
 use Rattle.arithmetic.proofs.Ways.{not_fractions}
 use Rattle.fraction.proofs.Promised.{meant}

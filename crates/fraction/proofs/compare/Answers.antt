@@ -1,6 +1,5 @@
 -- `fraction::compare` meets its contract.
 use mathlib.Core.Path.{sym, ◌∙◌}
-use borrow.Author.Rules.{rules}
 use Rattle.arithmetic.proofs.Meaning.{both_are, compare_answers}
 use Rattle.arithmetic.proofs.Ways.{not_fractions}
 use Rattle.fraction.proofs.Promised.{meant}

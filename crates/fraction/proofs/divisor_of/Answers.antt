@@ -1,6 +1,5 @@
 -- `fraction::divisor_of` meets its contract: of 1 nothing else is a divisor, and a remainder has the same common divisors.
 use mathlib.Core.Path.{sym, ◌∙◌, ap}
-use borrow.Author.Rules.{rules}
 use Rattle.integers.specs.Gcd.{gcd}
 use Rattle.integers.specs.Coprime.{coprime_one}
 use Rattle.fraction.proofs.Divided.{gcd-rest}

@@ -1,6 +1,5 @@
 -- `fraction::is_fraction` meets its contract: a shaped pair in lowest terms.
 use mathlib.Core.Path.{sym, ◌∙◌}
-use borrow.Author.Rules.{rules}
 use Rattle.arithmetic.proofs.Ways.{Told}
 use Rattle.fraction.proofs.Tested.{shaped_fraction, unshaped}
 use Rattle.fraction.proofs.is_fraction.Goals as goal

@@ -1,7 +1,6 @@
 -- `fraction::is_lowest` meets its contract: a denominator of 1, or the greatest common divisor.
 use mathlib.Core.Path.{sym, ◌∙◌}
-use borrow.Author.Rules.{rules}
-use Rattle.fraction.proofs.Tested.{whole-lowest-terms, found_test}
+use Rattle.fraction.proofs.Tested.{whole-lowest-terms}
 use Rattle.fraction.proofs.is_lowest.Goals as goal
 
 pub returns-then-p-eq1 : goal.returns-then-p-eq1

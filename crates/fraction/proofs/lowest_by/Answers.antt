@@ -1,7 +1,6 @@
 -- `fraction::lowest_by` meets its contract: both operands are tested by g, which then divides the parts of the result.
-use mathlib.Core.Path.{◌≡◌, sym, ◌∙◌, ap, subst}
+use mathlib.Core.Path.{sym, ◌∙◌, ap, subst}
 use Prim.Native.Nat.{ℕ, ◌<◌, ◌∣◌}
-use borrow.Author.Rules.{rules}
 use lib.IntN.{nat_abs}
 use Rattle.integers.specs.Gcd.{gcd}
 use Rattle.arithmetic.specs.Fraction.{within}

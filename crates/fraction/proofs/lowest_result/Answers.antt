@@ -1,6 +1,5 @@
 -- `fraction::lowest_result` meets its contract: three divisors in one loop, or the one of the result first.
 use mathlib.Core.Path.{sym, ◌∙◌, ap}
-use borrow.Author.Rules.{rules}
 use Rattle.arithmetic.specs.Fraction.{within}
 use Rattle.arithmetic.proofs.Ways.{on_fractions_lem}
 use Rattle.fraction.specs.Results.{in_lowest_terms}

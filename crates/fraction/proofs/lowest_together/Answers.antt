@@ -1,9 +1,7 @@
 -- `fraction::lowest_together` meets its contract: the loop finds whether a and b are in lowest terms, and what divides both parts of q.
 use mathlib.Core.Path.{◌≡◌, sym, ◌∙◌, ap}
-use mathlib.Core.Bool.{true, false}
-use Prim.Native.Nat.{◌<◌}
+use mathlib.Core.Bool.{true}
 use native.Mathlib.Omega.{arith}
-use borrow.Author.Rules.{rules}
 use Rattle.arithmetic.specs.Fraction.{within}
 use Rattle.arithmetic.proofs.Ways.{on_fractions_lem, not_fractions}
 use Rattle.arithmetic.proofs.Lowest.{lowest_by, divisor_positive}

@@ -1,7 +1,6 @@
 -- `fraction::product` meets its contract: the exact product of shaped pairs, brought to lowest terms.
 use mathlib.Core.Path.{◌≡◌, sym, ◌∙◌, ap}
-use mathlib.Core.Bool.{Bool, true, ◌&&◌}
-use borrow.Author.Rules.{rules}
+use mathlib.Core.Bool.{true, ◌&&◌}
 use Rattle.arithmetic.specs.Quotient.{Quotient, lowest}
 use Rattle.arithmetic.specs.Fraction.{is_fraction, within, on_fractions}
 use Rattle.arithmetic.proofs.Meaning.{product-means}

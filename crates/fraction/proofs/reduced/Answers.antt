@@ -1,5 +1,4 @@
 -- `fraction::reduced` meets its contract.
-use borrow.Author.Rules.{rules}
 use Rattle.arithmetic.proofs.Meaning.{reduced_means}
 use Rattle.fraction.proofs.Promised.{meant}
 use Rattle.fraction.proofs.reduced.Goals as goal
