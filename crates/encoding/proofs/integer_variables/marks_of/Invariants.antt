@@ -1,9 +1,9 @@
 use Prim.Native.Nat.{◌-◌}
 use lib.ListN.{length}
 use Rattle.encoding.proofs.Marks.{Marking}
-use Rattle.encoding.proofs.integers.marks_of.Given as goal
+use Rattle.encoding.proofs.integer_variables.marks_of.Given as goal
 
--- `encoding::integers::marks_of` meets its contract: what is marked, and what is still listed, are all.
+-- `encoding::integer_variables::marks_of` meets its contract: what is marked, and what is still listed, are all.
 abbrev pub invariant-loop-k : goal.invariant-loop-k
 invariant-loop-k l = Marking l.variables l.marks l.k
 
