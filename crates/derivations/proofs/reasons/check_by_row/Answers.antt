@@ -7,16 +7,12 @@ use Rattle.rules.specs.Derivations.{check_dominates}
 use Rattle.rules.specs.Sentence.Formed.{Formed}
 use Rattle.encoding.specs.Places.{terms_at}
 use Rattle.derivations.proofs.RowsLaws.{lists_row, right_fraction, terms_formed, constraint_is}
-use Rattle.derivations.proofs.reasons.check_by_row.Statement.{statement}
-use Rattle.derivations.proofs.reasons.check_by_row.Tie as tie
+use Rattle.derivations.proofs.reasons.check_by_row.Goals as goal
 
-returns : tie.Need-returns
+pub returns : goal.returns
 returns c =
     λ tree r e l lt.
-    let by = lists_row e _ lt (c.before.row-at.ensures tree _ (e.row _ lt)) in
-    let a = c.before.before.before.before.args in
-    c.check-by-terms.ensures tree r l (subst (λ (n : ℕ). Formed n (terms_at a.index.now a.values.now c.before.row-at.result.terms)) (sym by.number) (terms_formed by refl refl)) (right_fraction by)
+    let by = lists_row e _ lt (c.row_at-by.ensures tree _ (e.row _ lt)) in
+    let a = c.args in
+    c.check_by_terms.ensures tree r l (subst (λ (n : ℕ). Formed n (terms_at a.index.now a.values.now c.row_at-by.result.terms)) (sym by.number) (terms_formed by refl refl)) (right_fraction by)
     ∙ ap (λ (d : Constraint). check_dominates tree d r) (constraint_is by refl refl)
-
-pub check_by_row_spec : {M : Type 1} → statement M
-check_by_row_spec = tie.close (tie.spec (λ c. search rules) (λ c. search rules) returns)
