@@ -14,7 +14,7 @@ use Rattle.tables.specs.Cells.{fraction_at, part}
 use Rattle.tables.proofs.CellsLaws.{part_is}
 use Rattle.tables.specs.Pairs.{listed_in}
 use Rattle.tables.specs.declared.Pairs.{Pairs}
-use Rattle.grammar.specs.Tree.{Term, TermList, Multiplier, Side, obj, listed, Tree}
+use Rattle.grammar.specs.Tree.{TermList, Side, obj, listed, Tree}
 use Rattle.grammar.specs.Contents.{side_cells, side_values}
 use Rattle.grammar.proofs.Fits.{by_turns_length}
 use Rattle.grammar.specs.Lists.{Each}
@@ -24,7 +24,7 @@ use Rattle.grammar.specs.Ranges.{TermsInRange, SideInRange}
 use Rattle.grammar.specs.Tables.{by_turns}
 use Rattle.rules.specs.Tests.{All}
 use Rattle.rules.specs.Rows.{objective, side_terms}
-use Rattle.encoding.specs.Places.{indices_at, values_at, a_term, a_multiplier, terms_at, pairs_from, cell_of, number_of, count_of, side_at, side_of, own_terms}
+use Rattle.encoding.specs.Places.{indices_at, values_at, terms_at, pairs_from, cell_of, number_of, count_of, side_at, side_of, own_terms}
 use Rattle.encoding.specs.HeldPairs.{Paired, term, Turns}
 
 -- ---- parts

@@ -12,7 +12,6 @@ use Rattle.arithmetic.specs.declared.Fraction.{Fraction}
 use Rattle.tables.specs.Words as word
 use Rattle.tables.specs.Cells.{part}
 use Rattle.grammar.specs.Tree.{Multiplier, MultiplierList, Reason, asm, lin, rnd, uns, sol}
-use Rattle.grammar.specs.Certificate.{reason_cell, of_reason}
 use Rattle.grammar.specs.Contents.{multiplier_cells, multiplier_values, reason_cells, reason_values}
 use Rattle.grammar.specs.Lists.{Each}
 use Rattle.grammar.specs.Positions.{StandsAt}

@@ -1,11 +1,8 @@
 -- The ends of a claim, and what fetching one gives.
 -- Assumes nothing.
-use Rattle.std.specs.Prelude.{◌≡◌, Bool, true, false, cond, List, ℕ, ℤ, get_or}
+use Rattle.std.specs.Prelude.{Bool, true, false, cond}
 use Rattle.grammar.specs.Tree.{infinite, finite, Claim, infeas, range}
 use Rattle.grammar.specs.Tree as tree
-use Rattle.grammar.specs.Certificate.{claim_cell, of_claim}
-use Rattle.rules.specs.Sentence.Formed.{EndFormed, ClaimFormed}
-use Rattle.encoding.specs.Encodes.{EncodesClaim}
 use Rattle.encoding.specs.declared.claims.End.{End}
 use Rattle.encoding.specs.declared.claims.End.TheVariants as end
 

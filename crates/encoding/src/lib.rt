@@ -4,6 +4,6 @@
 #![tactic(auto)]
 
 pub mod claims;
-pub mod integers;
+pub mod integer_variables;
 pub mod reasons;
 pub mod rows;

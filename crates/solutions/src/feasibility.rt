@@ -10,7 +10,7 @@ ghost use Rattle.solutions.specs.Points.{IsPoint, whole_at};
 
 use crate::points;
 use arithmetic::Arithmetic;
-use encoding::{integers, rows as encoded};
+use encoding::{integer_variables, rows as encoded};
 use grammar::Refusal;
 use linear::lists;
 use senses::values as tests;
@@ -93,7 +93,7 @@ fn check_solution(index: &[u16], values: &[i32], rows: &[u16], header: Header, j
 {
     let place = tables::solution_at(rows, j).place;
     let point = points::point_of(index, values, rows, j);
-    let integers = integers::integers_of(index, header.integers);
+    let integers = integer_variables::integers_of(index, header.integers);
     let v = check_whole(integers, &point.nums, &point.dens, place);
     let Verdict::Fine = v else {
         return v;

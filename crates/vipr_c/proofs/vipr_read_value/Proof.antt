@@ -5,7 +5,7 @@ use Rattle.vipr_c.proofs.vipr_read_value.Tie as tie
 use mathlib.Core.Path.{ap, ap₂}
 use Rattle.value.specs.Promise.{value_says}
 use Rattle.integers.proofs.Casts.{back_of}
-use Rattle.fraction_c.specs.Stored.{pair}
+use Rattle.fraction.specs.Stored.{pair}
 use Rattle.vipr_c.proofs.ValueLaws.{value-given, value-refused}
 
 returns : tie.Need-returns

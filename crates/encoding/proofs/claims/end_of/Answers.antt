@@ -3,7 +3,6 @@ use mathlib.Core.Bool.{Bool}
 use Rattle.encoding.specs.Claims.{end_in}
 use Rattle.encoding.proofs.ClaimsLaws.{claim_word}
 use Rattle.encoding.proofs.ClaimsLaws.{no_end, upper_end, lower_end}
-use borrow.Author.Rules.{rules}
 use Rattle.encoding.proofs.claims.end_of.Goals as goal
 
 pub returns-then-is_infeas : goal.returns-then-is_infeas

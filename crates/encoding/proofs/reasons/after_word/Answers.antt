@@ -1,7 +1,6 @@
 use mathlib.Core.Path.{sym, ◌∙◌}
 use mathlib.Core.Bool.{true, false}
 use Rattle.encoding.proofs.ReasonsLaws.{after-uns, after_other}
-use borrow.Author.Rules.{rules}
 use Rattle.encoding.proofs.reasons.after_word.Goals as goal
 
 pub returns-then-word-eq-UNS : goal.returns-then-word-eq-UNS

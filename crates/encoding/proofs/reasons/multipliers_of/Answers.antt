@@ -1,6 +1,5 @@
 -- `encoding::reasons::multipliers_of` meets its contract: they follow the reason's word, and their values the row's.
-use Rattle.encoding.proofs.RowsLaws.{own_small, multipliers_are}
-use borrow.Author.Rules.{rules}
+use Rattle.encoding.proofs.RowsLaws.{own_small}
 use native.Mathlib.Omega.{arith}
 use Rattle.encoding.proofs.reasons.multipliers_of.Goals as goal
 

@@ -2,7 +2,6 @@ use mathlib.Core.Path.{sym, ap, ◌∙◌}
 use mathlib.Core.Bool.{true, false}
 use Rattle.encoding.specs.Places.{indices_at}
 use Rattle.encoding.proofs.ReasonsLaws.{named-uns, named_other}
-use borrow.Author.Rules.{rules}
 use Rattle.encoding.proofs.reasons.named_by.Goals as goal
 
 pub returns-then-word-eq-UNS : goal.returns-then-word-eq-UNS

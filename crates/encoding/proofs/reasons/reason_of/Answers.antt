@@ -1,6 +1,5 @@
 -- `encoding::reasons::reason_of` meets its contract: the reason follows the row's own cells.
 use Rattle.encoding.proofs.RowsLaws.{own_small, reason_is}
-use borrow.Author.Rules.{rules}
 use native.Mathlib.Omega.{arith}
 use Rattle.encoding.proofs.reasons.reason_of.Goals as goal
 

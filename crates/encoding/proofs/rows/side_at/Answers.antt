@@ -1,6 +1,5 @@
 -- `encoding::rows::side_at` meets its contract: the cell after the sense tells whose terms they are.
 use Rattle.encoding.proofs.RowsLaws.{side-objective, side-own}
-use borrow.Author.Rules.{rules}
 use Rattle.encoding.proofs.rows.side_at.Goals as goal
 
 pub returns-then-count-eq-OBJ : goal.returns-then-count-eq-OBJ
