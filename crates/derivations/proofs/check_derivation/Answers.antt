@@ -1,6 +1,5 @@
 -- `derivations::check_derivation` meets its contract: 11 over the rows that the reason names, and then the reason.
 use mathlib.Core.Path.{◌∙◌, ap}
-use borrow.Author.Rules.{rules}
 use Rattle.rules.specs.Result.{Verdict, ◌and_then◌}
 use Rattle.rules.specs.Derivations.{named, check_reason, check_derivation}
 use Rattle.encoding.specs.Encodes.{derivation_at}

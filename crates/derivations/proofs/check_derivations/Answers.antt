@@ -1,17 +1,8 @@
 -- `derivations::check_derivations` meets its contract: the rows that are left to check give the same as all.
-use mathlib.Core.Path.{◌≡◌, ◌∙◌}
-use mathlib.Core.List.{List}
-use Prim.Native.Nat.{◌-◌, ◌≤◌}
+use mathlib.Core.Path.{◌∙◌}
 use native.Mathlib.Omega.{arith}
-use borrow.Author.Rules.{rules}
-use Rattle.arithmetic.specs.Fraction.{IsFraction}
-use Rattle.arithmetic.specs.declared.Fraction.{Fraction}
-use Rattle.grammar.specs.Tree.{Tree}
-use Rattle.rules.specs.Solutions.{best_of}
-use Rattle.encoding.specs.Encodes.{Encodes}
-use Rattle.derivations.specs.Checks.{best_says}
 use Rattle.derivations.proofs.Refusals.{verdict_on, verdict_stop}
-use Rattle.derivations.proofs.ReasonsLaws.{checks_are, Left, left-all, left-next, left_none}
+use Rattle.derivations.proofs.ReasonsLaws.{checks_are, left-next}
 use Rattle.derivations.proofs.check_derivations.Goals as goal
 
 pub returns-in_default : goal.returns-in_default
@@ -21,10 +12,9 @@ returns-in_default c =
     ∙ left-next e os c.loop-own.invariant.0 (c.loop-own.invariant.1 tree os e b f) c.loop-own-test.true
 
 pub loop-own-preserved : goal.loop-own-preserved
-loop-own-preserved c =
-    (
-      omega (arith, c.loop-own.invariant.0),
-      λ tree os e b f.
-          verdict_on _ _ (c.check_derivation-v.ensures tree os _ (checks_are e c.integers_of.ensures c.marks_of-integers.ensures) b f (omega (arith, c.loop-own.invariant.0)) c.loop-own-test.true) c.in-Fine.is
-          ∙ left-next e os c.loop-own.invariant.0 (c.loop-own.invariant.1 tree os e b f) c.loop-own-test.true,
-    )
+loop-own-preserved c = (
+  omega (arith, c.loop-own.invariant.0),
+  λ tree os e b f.
+      verdict_on _ _ (c.check_derivation-v.ensures tree os _ (checks_are e c.integers_of.ensures c.marks_of-integers.ensures) b f (omega (arith, c.loop-own.invariant.0)) c.loop-own-test.true) c.in-Fine.is
+      ∙ left-next e os c.loop-own.invariant.0 (c.loop-own.invariant.1 tree os e b f) c.loop-own-test.true,
+)

@@ -1,13 +1,9 @@
 -- `derivations::check_reason` meets its contract: the word tells the reason.
-use mathlib.Core.Path.{sym, ◌∙◌, ap, subst}
+use mathlib.Core.Path.{sym, ◌∙◌, ap}
 use mathlib.Core.Option.{Option}
-use Prim.Native.Nat.{◌<◌}
-use borrow.Author.Rules.{rules}
 use Rattle.arithmetic.specs.declared.Fraction.{Fraction}
-use Rattle.grammar.specs.Tree.{Unsplit, uns}
-use Rattle.rules.specs.Tests.{All}
-use Rattle.rules.specs.Derivations.{named, check_lin, check_rnd, check_uns, check_sol, check_reason}
-use Rattle.derivations.proofs.ReasonsLaws.{unsplit_is, reason_is, named-below, multipliers_are}
+use Rattle.rules.specs.Derivations.{check_lin, check_rnd, check_sol, check_reason}
+use Rattle.derivations.proofs.ReasonsLaws.{reason_is, named-below, multipliers_are}
 use Rattle.derivations.proofs.check_reason.Goals as goal
 
 pub returns-in-Lin : goal.returns-in-Lin

@@ -1,16 +1,12 @@
 -- `derivations::combining::combine` meets its contract: the combination so far fits, and with the rows that are left it gives that of all.
 use mathlib.Core.Path.{◌≡◌, subst}
 use mathlib.Core.Bool.{true}
-use Prim.Native.Nat.{ℕ, ◌-◌, ◌≤◌, ◌<◌}
-use native.Mathlib.Omega.{arith}
+use Prim.Native.Nat.{ℕ, ◌≤◌, ◌<◌}
 use borrow.Author.Tests.{not-true, not-false}
 use Rattle.tables.specs.Pairs.{pairs_in}
-use Rattle.grammar.specs.Tree.{Tree}
-use Rattle.linear.specs.ListsLaws.{listed_from, listed_none}
+use Rattle.linear.specs.ListsLaws.{listed_none}
 use Rattle.encoding.specs.Places.{a_multiplier}
-use Rattle.encoding.specs.Encodes.{Encodes}
-use Rattle.derivations.specs.Checks.{multipliers_in, MultipliersBelow}
-use Rattle.derivations.proofs.CombiningLaws.{Combining, combining, stepped, combining_on, combining_stop, combining_end}
+use Rattle.derivations.proofs.CombiningLaws.{combining, stepped, combining_on, combining_stop, combining_end}
 use Rattle.derivations.proofs.combining.combine.Goals as goal
 
 pub loop-k-init : goal.loop-k-init
@@ -31,8 +27,7 @@ returns-then-not-done-clause-fractions c =
 pub loop-k-preserved : goal.loop-k-preserved
 loop-k-preserved c =
     let inside : let a = c.args in c.loop-k.k < pairs_in a.named.now a.factors.now = subst (λ (n : ℕ). c.loop-k.k < n) c.pairs_in-count.ensures c.loop-k-test.true in
-    let fits : c.next-done.result.fits ≡ true = not-false _ c.if-not-done.false in
-    (
+    let fits : c.next-done.result.fits ≡ true = not-false _ c.if-not-done.false in (
       fits,
       λ tree e below. combining_on c.next-done.result (stepped e _ _ below inside c.loop-k.invariant.0 (c.loop-k.invariant.1 tree e below) (c.row_at-row.ensures tree _) c.indices_of-variables.ensures c.values_of-parts.ensures c.value_at-factor.ensures c.next-done.result c.next-done.ensures.says c.next-done.ensures.fractions) fits,
     )

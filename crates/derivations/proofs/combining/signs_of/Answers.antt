@@ -1,18 +1,10 @@
 -- `derivations::combining::signs_of` meets its contract: the signs so far, with those of the multipliers that are left, are those of all.
 use mathlib.Core.Path.{subst}
-use mathlib.Core.List.{List}
-use Prim.Native.Nat.{ℕ, ◌-◌, ◌≤◌, ◌<◌}
-use native.Mathlib.Omega.{arith}
-use borrow.Author.Rules.{rules}
-use lib.IntN.{ℤ}
+use Prim.Native.Nat.{ℕ, ◌≤◌, ◌<◌}
 use Rattle.tables.specs.Pairs.{pairs_in}
-use Rattle.tables.specs.declared.Header.{Header}
-use Rattle.grammar.specs.Tree.{Tree}
-use Rattle.linear.specs.ListsLaws.{listed_from, listed_next, listed_none}
+use Rattle.linear.specs.ListsLaws.{listed_next, listed_none}
 use Rattle.encoding.specs.Places.{a_multiplier}
-use Rattle.encoding.specs.Encodes.{Encodes}
-use Rattle.derivations.specs.Checks.{multipliers_in, MultipliersBelow}
-use Rattle.derivations.proofs.CombiningLaws.{multiplier-below, Signing, signing, signing_on, signing_end, signed_is}
+use Rattle.derivations.proofs.CombiningLaws.{multiplier-below, signing_on, signing_end, signed_is}
 use Rattle.derivations.proofs.combining.signs_of.Goals as goal
 
 pub loop-k-preserved : goal.loop-k-preserved

@@ -1,7 +1,6 @@
 -- `derivations::reasons::check_by_row` meets its contract: the row's constraint is that of its terms, sense and right side.
 use mathlib.Core.Path.{refl, sym, ◌∙◌, ap, subst}
 use Prim.Native.Nat.{ℕ}
-use borrow.Author.Rules.{rules}
 use Rattle.rules.specs.Rows.{Constraint}
 use Rattle.rules.specs.Derivations.{check_dominates}
 use Rattle.rules.specs.Sentence.Formed.{Formed}

@@ -1,7 +1,6 @@
 -- `derivations::reasons::check_by_terms` meets its contract: the arrays have the coefficients that the terms give.
 use mathlib.Core.Path.{◌∙◌, ap, ap₂, subst}
 use Prim.Native.Nat.{ℕ}
-use borrow.Author.Rules.{rules}
 use Rattle.arithmetic.specs.declared.Fraction.{Fraction}
 use Rattle.rules.specs.Derivations.{check_dominates}
 use Rattle.rules.specs.Sentence.Formed.{Formed}

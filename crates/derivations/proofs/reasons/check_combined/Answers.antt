@@ -1,7 +1,6 @@
 -- `derivations::reasons::check_combined` meets its contract: the sign rule, then the combination, then what is asked of it.
 use mathlib.Core.Path.{sym, ◌∙◌, ap}
 use mathlib.Core.Bool.{Bool}
-use borrow.Author.Rules.{rules}
 use Rattle.linear.specs.Combinations.{within, combination_of}
 use Rattle.derivations.specs.Checks.{concluded}
 use Rattle.derivations.proofs.ReasonsLaws.{suitable_of, not_suitable, too_wide, made, fetched_are}

@@ -1,5 +1,4 @@
 -- `derivations::reasons::check_dominates` meets its contract: the row is compared by its listed terms.
-use borrow.Author.Rules.{rules}
 use Rattle.derivations.proofs.Refusals.{require_yes, require_no}
 use Rattle.derivations.proofs.RowsLaws.{right_fraction, terms_formed, dominates-row}
 use Rattle.derivations.proofs.reasons.check_dominates.Goals as goal

@@ -1,16 +1,14 @@
 -- `derivations::reasons::check_made` meets its contract: `rnd` asks of the rounded combination what `lin` asks of the combination.
-use mathlib.Core.Path.{◌≡◌, refl, sym, ◌∙◌, ap}
+use mathlib.Core.Path.{refl, sym, ◌∙◌, ap}
 use mathlib.Core.Bool.{Bool}
-use borrow.Author.Rules.{rules}
 use Rattle.arithmetic.specs.declared.Fraction.{Fraction}
-use Rattle.grammar.specs.Tree.{Tree}
 use Rattle.rules.specs.Rows.{Constraint}
-use Rattle.rules.specs.Rounding.{can_be_rounded, rounded}
+use Rattle.rules.specs.Rounding.{rounded}
 use Rattle.rules.specs.Derivations.{check_dominates}
 use Rattle.senses.specs.Senses.{constraint_by}
-use Rattle.linear.specs.Coefficients.{coefficients_of, VariablesAre}
+use Rattle.linear.specs.Coefficients.{coefficients_of}
 use Rattle.derivations.specs.Checks.{concluded}
-use Rattle.derivations.proofs.Refusals.{require_on, require_stop}
+use Rattle.derivations.proofs.Refusals.{require_on}
 use Rattle.derivations.proofs.reasons.check_made.Goals as goal
 
 pub returns : goal.returns

@@ -1,8 +1,6 @@
 -- `derivations::reasons::check_sol` meets its contract: the objective's terms with the best value on the right.
 use mathlib.Core.Path.{sym, ◌∙◌, ap, subst}
 use mathlib.Core.Bool.{Bool}
-use borrow.Author.Rules.{rules}
-use Rattle.rules.specs.Result.{refused}
 use Rattle.rules.specs.Rows.{variables, value_in, objective_with}
 use Rattle.rules.specs.Derivations.{check_dominates, check_sol}
 use Rattle.rules.specs.Sentence.Formed.{Formed}

@@ -1,6 +1,5 @@
 -- `derivations::reasons::check_uns` meets its contract: a proper split, then each i row.
 use mathlib.Core.Path.{◌∙◌}
-use borrow.Author.Rules.{rules}
 use Rattle.rules.specs.Derivations.{check_uns}
 use Rattle.derivations.proofs.Refusals.{require_on, require_stop, verdict_on, verdict_stop}
 use Rattle.derivations.proofs.reasons.check_uns.Goals as goal

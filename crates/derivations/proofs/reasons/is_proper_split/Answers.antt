@@ -1,6 +1,5 @@
 -- `derivations::reasons::is_proper_split` meets its contract: the two rows' constraints are a split.
 use mathlib.Core.Path.{◌∙◌, ap₂}
-use borrow.Author.Rules.{rules}
 use Rattle.rules.specs.Splits.{is_split, is_proper_split}
 use Rattle.derivations.proofs.RowsLaws.{few_are, lists_row, terms_formed, constraint_is}
 use Rattle.derivations.proofs.reasons.is_proper_split.Goals as goal

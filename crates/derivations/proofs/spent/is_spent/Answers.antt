@@ -1,5 +1,4 @@
 -- `derivations::spent::is_spent` meets its contract: a given row never, a derived one by its last index.
-use borrow.Author.Rules.{rules}
 use Rattle.derivations.proofs.SpentLaws.{spent_given, spent_never, spent_by}
 use Rattle.derivations.proofs.spent.is_spent.Goals as goal
 
