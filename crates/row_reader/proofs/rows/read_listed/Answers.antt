@@ -3,10 +3,7 @@ use mathlib.Core.Path.{◌≡◌, sym, subst}
 use mathlib.Core.List.{List}
 use Prim.Native.Nat.{ℕ, suc, ◌≤◌}
 use native.Mathlib.Omega.{arith}
-use borrow.Author.Rules.{rules}
 use lib.IntN.{ℤ}
-use Rattle.row_reader.proofs.rows.read_listed.Statement.{statement}
-use Rattle.row_reader.proofs.rows.read_listed.Tie as tie
 use Rattle.text.specs.Bytes.{Bytes}
 use Rattle.grammar.specs.Format.{Or, instead, given, items}
 use Rattle.grammar.specs.Certificate.{pair, listed_terms}
@@ -15,7 +12,8 @@ use Rattle.symbol_reader.specs.Follows.{Always, Follows, cell_or, Tells}
 use Rattle.symbol_reader.specs.declared.Cursor.{Cursor}
 use Rattle.symbol_reader.specs.declared.Step.{Step}
 use Rattle.symbol_reader.specs.declared.Step.TheVariants.{Next}
-use Rattle.symbol_reader.proofs.FollowsLaws.{follows_by, follows_stop, follows_nothing, follows_at}
+use Rattle.symbol_reader.proofs.FollowsLaws.{follows_by, follows_nothing, follows_at}
+use Rattle.row_reader.proofs.rows.read_listed.Goals as goal
 
 module _ (n : ℕ) (small : n ≤ 256) {text : Bytes} {s : Step} {ix : List ℕ} {vs : List ℤ} {rs : List ℕ} {i : ℕ} {c : Cursor} (e : s ≡ Next i c) where
   -- the word was read
@@ -34,21 +32,12 @@ module _ (n : ℕ) (small : n ≤ 256) {text : Bytes} {s : Step} {ix : List ℕ}
       go instead t = absurd (h (sym t))
       go (given a) t = follows_by e (subst (λ (k : ℕ). Follows Always (λ _. items k (pair n)) any text (Next i c) ix vs rs ix' vs' rs' r) (sym t.0) (follows_at f))
 
-returns : tie.Need-returns
-returns c = λ k rs small t. follows_stop c.enum_told.given.1
+pub returns-then-k-eq-OBJ : goal.returns-then-k-eq-OBJ
+returns-then-k-eq-OBJ c =
+    let s = c.args in
+    λ k rs small t. none s.n small c.in-Next.is c.if-k-eq-OBJ.true k t
 
-returns-2 : tie.Need-returns-2
-returns-2 c =
-    let s = c.before.before.before.before.before.before.args in
-    λ k rs small t. none s.n small c.before.before.s.given.1 c.if1.true k t
-
-returns-3 : tie.Need-returns-3
-returns-3 c =
-    let p = c.before.before.before in
-    let i = p.before.before.before in
-    let s = i.before.before.before.before.before.before.args in
-    λ k rs small t. some s.n small i.before.before.s.given.1 i.if1.false (p.read_pairs.ensures rs (omega (arith, small))) k t
-
-pub read_listed_spec : {M : Type 1} → statement M
-read_listed_spec = tie.close (tie.spec (λ c. search rules) (λ c. search rules) returns returns-2 (λ c. search rules)
-    (λ c. search rules) (λ c. search rules) returns-3)
+pub returns : goal.returns
+returns c =
+    let s = c.args in
+    λ k rs small t. some s.n small c.in-Next.is c.if-k-eq-OBJ.false (c.read_pairs.ensures rs (omega (arith, small))) k t
