@@ -3,13 +3,10 @@
 use mathlib.Core.Path.{◌≡◌, refl, sym, ◌∙◌, ap, ap₂, subst}
 use mathlib.Core.Bool.{Bool, true, false, not, ◌&&◌}
 use mathlib.Core.List.{List, [], ◌∷◌}
-use mathlib.Core.Logic.{inl, inr}
 use mathlib.Core.Option.{none, some}
 use Prim.Native.Nat.{ℕ, suc, ◌+◌, ◌-◌, ◌≤◌, ◌<◌}
 use native.Mathlib.Nat.{add-zero}
 use native.Mathlib.Omega.{arith}
-use types.Run.{OneOf}
-use denote.Enum.Declared.{tag_of}
 use lib.IntN.{ℤ}
 use lib.ListN.{length, get_or}
 use Rattle.tables.specs.declared.Header.{Header}
@@ -27,7 +24,6 @@ use Rattle.encoding.proofs.EncodesLaws.{maximize_is, given_are, rows_are, derive
 use Rattle.encoding.specs.Claims.{is_infeas, end_in}
 use Rattle.encoding.proofs.ClaimsLaws.{end_formed, claim_word}
 use Rattle.claims.specs.Asked.{against, asked_says, meets}
-use Rattle.claims.specs.contracts.proving.Asked.{the_type}
 use Rattle.claims.specs.declared.proving.Asked as code
 use Rattle.claims.specs.declared.proving.Asked.TheVariants as ask
 
@@ -84,10 +80,9 @@ module _ (tree : Tree) where
   unfolding is_proved
   nothing_asked e = ap (answers tree) e
 
-  pub last-asked : (a : code.Asked) → OneOf (1 ∷ 2 ∷ []) (tag_of the_type a) → asked_says tree a ≡ asked tree → last_passes tree (meets tree (asked_says tree a)) (last_row tree) ≡ is_proved tree
+  pub last-asked : (a : code.Asked) → (a ≡ ask.Nothing → ⊥) → asked_says tree a ≡ asked tree → last_passes tree (meets tree (asked_says tree a)) (last_row tree) ≡ is_proved tree
   unfolding is_proved
-  last-asked ask.Nothing (inl k) e = absurd (omega (arith, k))
-  last-asked ask.Nothing (inr k) e = absurd (omega (arith, k))
+  last-asked ask.Nothing k e = absurd (k refl)
   last-asked ask.Absurdity k e = ap (answers tree) e
   last-asked (ask.Domination bound) k e = ap (answers tree) e
 

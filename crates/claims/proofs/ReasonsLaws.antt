@@ -3,7 +3,7 @@
 use mathlib.Core.Path.{◌≡◌, refl, sym, ◌∙◌, ap, ap₂, subst}
 use mathlib.Core.Bool.{Bool, true, false, ◌&&◌}
 use mathlib.Core.List.{List, [], ◌∷◌}
-use mathlib.Core.Logic.{⊎_elim}
+use mathlib.Core.Logic.{◌⊎◌, inl, inr, ⊎_elim}
 use Prim.Native.Nat.{ℕ, ◌+◌, ◌≤◌, ◌<◌, max}
 use native.Mathlib.Numerals.{add-one}
 use native.Mathlib.Omega.{arith}
@@ -40,6 +40,12 @@ tag_is Lin = refl
 tag_is Rnd = refl
 tag_is Uns = refl
 tag_is Sol = refl
+
+-- the tag of each other case than `asm`
+pub other_tag : {w : Word} → (w ≡ Lin) ⊎ ((w ≡ Rnd) ⊎ ((w ≡ Uns) ⊎ (w ≡ Sol))) → OneOf (1 ∷ 2 ∷ 3 ∷ 4 ∷ []) (tag_of the_type w)
+other_tag =
+    ⊎_elim (λ q. inl (ap (tag_of the_type) q))
+    (⊎_elim (λ q. inr (inl (ap (tag_of the_type) q))) (⊎_elim (λ q. inr (inr (inl (ap (tag_of the_type) q)))) (λ q. inr (inr (inr (ap (tag_of the_type) q))))))
 
 -- ---- `asm` rows
 

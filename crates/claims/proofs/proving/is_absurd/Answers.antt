@@ -1,0 +1,7 @@
+-- `claims::proving::is_absurd` meets its contract: the listed terms are the row's.
+-- Assumes nothing.
+use Rattle.claims.proofs.ProvingLaws.{absurd_row}
+use Rattle.claims.proofs.proving.is_absurd.Goals as goal
+
+pub returns : goal.returns
+returns c = λ tree x is formed. absurd_row tree is formed c.indices_of-listed.ensures c.values_of-parts.ensures c.is_absurd.ensures
