@@ -2,8 +2,8 @@
 -- document 01 gives it. Some are verified and some are refused, each for its own reason, so no function that answers every text
 -- alike meets the promise.
 -- Assumes nothing.
-use Rattle.std.specs.Prelude.{◌≡◌, refl, List, [], ◌∷◌, map, ℕ}
-use Rattle.std.proofs.Common.{sym, ◌∙◌, ap}
+use Rattle.std.specs.Prelude.{◌≡◌, refl, List, [], ◌∷◌, map}
+use Rattle.std.proofs.Common.{◌∙◌, ap}
 use Rattle.text.specs.Bytes.{Bytes}
 use Rattle.grammar.specs.Texts.{ReadText, taken, refused, read_of}
 use Rattle.rules.specs.Result as rules
