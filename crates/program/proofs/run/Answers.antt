@@ -14,7 +14,7 @@ returns-clause-answered g c =
     let last = to_z w64 (of_z w64 r.result.last) in
     let kept : last ≡ r.result.last = search rules in
     let text = take r.result.came r.new.text in
-    let made = line_after_lem last text c.if-last-lt0.false c.answer-size.ensures.line_made in
+    let made = line_after_lem last text (search rules) c.answer-size.ensures.line_made in
     record {
       stopped = stopped_as r.result.came r.auto.text kept r.ensures.stopped;
       counted = c.answer-size.ensures.counted;
