@@ -1,6 +1,6 @@
 -- What came after one more read, where reading stops, and what is handed over then.
 -- Assumes nothing.
-use Rattle.std.proofs.Common.{◌≡◌, ℕ, Bool, true, false, List, [], ◌++◌, ◌+◌, ◌-◌, None, Some, refl, sym, ap, ◌∙◌, append_assoc, take, drop, subst, ℤ, pos, negsuc, arith}
+use Rattle.std.proofs.Common.{◌≡◌, ℕ, true, false, List, [], ◌++◌, ◌+◌, ◌-◌, None, Some, refl, sym, ap, ◌∙◌, append_assoc, take, drop, subst, ℤ, pos, negsuc, arith}
 use mathlib.Core.Bool.{true≢false}
 use borrow.Author.Tests.{ltb-true}
 use lib.Signed.{lt_z}

@@ -1,8 +1,6 @@
 -- `program::run` meets its contract: reading stops where it may, and the line is that for the bytes that came.
 use mathlib.Core.Path.{◌≡◌, sym, ◌∙◌}
-use native.Mathlib.Omega.{arith}
 use borrow.Author.Rules.{rules}
-use lib.IntN.{ℤ}
 use Rattle.std.specs.Prelude.{take}
 use mir.Syntax.{w64}
 use mir.Val.{to_z, of_z}
