@@ -6,7 +6,6 @@ use mathlib.Core.List.{List}
 use Prim.Native.Nat.{ℕ}
 use Rattle.arithmetic.specs.declared.Fraction.{Fraction}
 use Rattle.grammar.specs.Tree.{Direction, End, infinite, finite, Tree}
-use Rattle.grammar.specs.declared.Refusal.{Refusal}
 use Rattle.rules.specs.Result as rules
 use Rattle.rules.specs.Result.{done, refused, fine, bind, ◌and_then◌, require, each}
 use Rattle.rules.specs.Tests.{some_of}
@@ -24,10 +23,9 @@ use Rattle.checker.specs.Order.{proof_of, reaching_of}
 -- ---- the first refusal
 
 -- a refusal of the first of two is the refusal of both
-pub stops : (v : Verdict) {reason : Refusal} {place : ℕ} (x y : rules.Verdict) → v ≡ Refused reason place → verdict_says v ≡ x → verdict_says v ≡ x and_then y
-stops v x y e f =
-    let g : refused _ _ ≡ x = sym (ap verdict_says e) ∙ f in
-    f ∙ sym g ∙ ap (λ (z : rules.Verdict). z and_then y) g
+pub stops : (v : Verdict) (x y : rules.Verdict) → (v ≡ Fine → ⊥) → verdict_says v ≡ x → verdict_says v ≡ x and_then y
+stops Fine x y n f = absurd (n refl)
+stops (Refused reason place) x y n f = ap (λ (z : rules.Verdict). z and_then y) f
 
 -- where the first is fine, the second is the refusal of both
 pub goes_on : {v : Verdict} {w : rules.Verdict} (x y : rules.Verdict) → v ≡ Fine → verdict_says v ≡ x → w ≡ y → w ≡ x and_then y
@@ -37,7 +35,7 @@ module _ (tree : Tree) where
   abbrev solutions_part : rules.Verdict
   solutions_part = each (check_solution tree) tree.solutions.solutions
 
-  pub solutions_refused : {v : Verdict} {reason : Refusal} {place : ℕ} → v ≡ Refused reason place → verdict_says v ≡ solutions_part → verdict_says v ≡ check_of tree
+  pub solutions_refused : {v : Verdict} → (v ≡ Fine → ⊥) → verdict_says v ≡ solutions_part → verdict_says v ≡ check_of tree
   unfolding check_of
   solutions_refused {v} e f = stops v solutions_part _ e f
 

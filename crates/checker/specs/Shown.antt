@@ -2,14 +2,15 @@
 -- document 01 gives it. Some are verified and some are refused, each for its own reason, so no function that answers every text
 -- alike meets the promise.
 -- Assumes nothing.
-use Rattle.std.specs.Prelude.{◌≡◌, refl, List, [], ◌∷◌, map, ℕ}
-use Rattle.std.proofs.Common.{sym, ◌∙◌, ap}
+use Rattle.std.specs.Prelude.{◌≡◌, refl, List, [], ◌∷◌, map}
+use Rattle.std.proofs.Common.{◌∙◌, ap}
 use Rattle.text.specs.Bytes.{Bytes}
 use Rattle.grammar.specs.Texts.{ReadText, taken, refused, read_of}
 use Rattle.rules.specs.Result as rules
 use Rattle.rules.specs.Check.{check_of}
 use Rattle.rules.specs.Worked as worked
 use Rattle.rules.specs.Worked.{Case, cases}
+use Rattle.rules.proofs.Worked as shown_by
 use Rattle.reader.specs.Promise.{begun}
 use Rattle.checker.specs.Promise.{Answer, verifies, refuses, checked_says, answer_of}
 
@@ -38,4 +39,4 @@ each-answer [] = refl
 each-answer (c ∷ cs) = λ i. same_answer c.text i ∷ each-answer cs i
 
 pub shown : map (λ (c : Case). answered c.text) cases ≡ map expected_of (map (λ (c : Case). c.expected) cases)
-shown = each-answer cases ∙ ap (map expected_of) worked.worked
+shown = each-answer cases ∙ ap (map expected_of) shown_by.worked

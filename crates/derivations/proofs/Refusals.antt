@@ -4,7 +4,6 @@ use mathlib.Core.Path.{◌≡◌, refl, sym, ◌∙◌, ap}
 use mathlib.Core.Bool.{Bool, true, false, ◌&&◌}
 use mathlib.Core.List.{List, [], ◌∷◌}
 use Prim.Native.Nat.{ℕ}
-use Rattle.grammar.specs.declared.Refusal.{Refusal}
 use Rattle.rules.specs.Tests.{all_of}
 use Rattle.rules.specs.Result.{Verdict, refused, fine, ◌and_then◌, require, each}
 use Rattle.verdicts.specs.Verdicts.{verdict_says}
@@ -26,12 +25,16 @@ module _ {r test : Bool} (reason place : ℕ) (e : r ≡ test) where
   require_no at t = ap (refused reason) at ∙ ap (λ (b : Bool). require b reason place) (sym t ∙ e)
 
 -- what a call answered, and what is tested after it
+stop_by : (c : code.Verdict) → (c ≡ Fine → ⊥) → (w : Verdict) → verdict_says c ≡ verdict_says c and_then w
+stop_by Fine n w = absurd (n refl)
+stop_by (Refused reason place) n w = refl
+
 module _ {v : Verdict} (w : Verdict) (c : code.Verdict) (e : verdict_says c ≡ v) where
   pub verdict_on : c ≡ Fine → w ≡ v and_then w
   verdict_on f = ap (λ (u : Verdict). u and_then w) (sym (ap verdict_says f) ∙ e)
 
-  pub verdict_stop : (reason : Refusal) (place : ℕ) → c ≡ Refused reason place → verdict_says c ≡ v and_then w
-  verdict_stop reason place f = ap verdict_says f ∙ ap (λ (u : Verdict). u and_then w) (sym (ap verdict_says f) ∙ e)
+  pub verdict_stop : (c ≡ Fine → ⊥) → verdict_says c ≡ v and_then w
+  verdict_stop n = stop_by c n w ∙ ap (λ (u : Verdict). u and_then w) e
 
 -- one test of each of a list
 pub each-require : {A : Type 0} (test : A → Bool) (reason place : ℕ) (xs : List A) → require (all_of test xs) reason place ≡ each (λ x. require (test x) reason place) xs

@@ -93,7 +93,10 @@ pub fn check_derivations(
 ) -> Verdict
     ensures { (tree : Tree) (os : List Value) → Encodes tree header index.now values.now rows.now → best_says any best ≡ best_of tree.objective.direction os → IsFraction best → verdict_says result ≡ each_from (check_derivation tree os) (length tree.constraints.rows) tree.derivations.derivations }
 {
-    let integers = integer_variables::marks_of(integer_variables::integers_of(index, header.integers));
+    let integers = integer_variables::marks_of(integer_variables::integers_of(
+        index,
+        header.integers,
+    ));
     let end = header.rows;
     let mut own = header.given;
     while own < end {

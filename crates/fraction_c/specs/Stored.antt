@@ -1,28 +1,10 @@
--- What a function for C returns, and what its pointers point to afterwards: 0 and the result; or document 01's number of the
--- refusal, and what they pointed to before. One record says so of every function, over the outcomes of `fraction`.
+-- What a function for C returns, and what its pointers point to afterwards: the record `Stored` of crates/fraction/specs, which
+-- the functions for C of other crates cite, too; and a comparison's result as a number.
 -- Assumes nothing.
-use Rattle.std.specs.Prelude.{◌≡◌, ℕ, ℤ, pos, negsuc}
+use Rattle.std.specs.Prelude.{pos, negsuc, ℤ}
 use Rattle.arithmetic.specs.Outcome.{Outcome, gives, refuses}
 use Rattle.arithmetic.specs.Fraction.{Order, less, equal, greater}
-use Rattle.arithmetic.specs.declared.Fraction.{Fraction}
-
--- the number that is returned
-abbrev pub status : {A : Type 0} → Outcome A → ℕ
-status (gives a) = 0
-status (refuses n) = n
-
--- what the pointers point to afterwards, given what they pointed to before
-abbrev pub contents : {A : Type 0} → Outcome A → A → A
-contents (gives a) before = a
-contents (refuses n) before = before
-
-pub record Stored {A : Type 0} (o : Outcome A) (returned : ℕ) (before after : A) : Type 0 where
-  pub returns : returned ≡ status o
-  pub stores : after ≡ contents o before
-
--- a numerator and a denominator: two operands, or what two pointers point to
-abbrev pub pair : ℤ → ℤ → Fraction
-pair n d = record { num = n; den = d }
+pub use Rattle.fraction.specs.Stored.{status, contents, Stored, pair}
 
 -- a comparison's result as a number: -1 for less, 0 for equal, 1 for greater
 abbrev pub sign_of : Outcome Order → Outcome ℤ

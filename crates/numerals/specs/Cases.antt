@@ -2,17 +2,13 @@
 -- request 1: one list, under one statement, `cases_hold`. Each is held to the definitions that the contracts cite. The document's
 -- other cases are run (crates value_cases, fraction_cases).
 -- Assumes nothing.
-use Rattle.std.specs.Prelude.{◌≡◌, refl, List, [], ◌∷◌, ℤ, pos, neg_ℤ}
+use Rattle.std.specs.Prelude.{◌≡◌, List, [], ◌∷◌, ℤ, pos, neg_ℤ}
 use Prim.Native.String.{String}
-use Rattle.integers.specs.Gcd.{gcd, euclid}
-use Rattle.text.specs.Bytes.{is_digit}
 use Rattle.text.specs.Ascii.{ascii}
 use Rattle.arithmetic.specs.Outcome.{Outcome, gives, refuses}
-use Rattle.arithmetic.specs.Quotient.{lowest, floor_z, ceiling_z}
-use Rattle.arithmetic.specs.Fraction.{is_fraction, within, on_fractions, product_of, floor_of, ceiling_of}
+use Rattle.arithmetic.specs.Fraction.{product_of, floor_of, ceiling_of}
 use Rattle.arithmetic.specs.declared.Fraction.{Fraction}
-use Rattle.numerals.specs.Spelling.{quotient_of}
-use Rattle.numerals.specs.Reading.{narrowed, outcome_of, read_value}
+use Rattle.numerals.specs.Reading.{read_value}
 
 infix 5 ◌over◌
 abbrev pub ◌over◌ : ℤ → ℤ → Fraction

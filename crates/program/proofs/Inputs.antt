@@ -1,10 +1,16 @@
--- What came after one more read.
+-- What came after one more read, where reading stops, and what is handed over then.
 -- Assumes nothing.
-use Rattle.std.proofs.Common.{◌≡◌, ℕ, List, ◌++◌, ◌+◌, ◌-◌, None, Some, sym, ap, ◌∙◌, append_assoc, take, drop, subst, ℤ, pos, negsuc, arith}
+use Rattle.std.proofs.Common.{◌≡◌, ℕ, true, false, List, [], ◌++◌, ◌+◌, ◌-◌, None, Some, refl, sym, ap, ◌∙◌, append_assoc, take, drop, subst, ℤ, pos, negsuc, arith}
+use mathlib.Core.Bool.{true≢false}
+use borrow.Author.Tests.{ltb-true}
+use lib.Signed.{lt_z}
+use Rattle.text.specs.Bytes.{Bytes}
+use Rattle.program.specs.Line.{printed}
+use Rattle.program.specs.Transcript.{line_after}
 use Rattle.std.proofs.Math.Seq.{take-add}
 use Rattle.std.specs.Prelude.{Option}
 use Rattle.std.specs.Io.KnownBytes.{Consumes}
-use Rattle.program.specs.Input.{Advanced}
+use Rattle.program.specs.Input.{Advanced, Stopped}
 
 -- two reads after one another
 consumed_both : (a b c : Option (List ℕ)) (xs ys : List ℕ) → Consumes a b xs → Consumes b c ys → Consumes a c (xs ++ ys)
@@ -25,3 +31,16 @@ consumed_more a b c text text' before after room last advanced kept known read =
     sum : (last : ℤ) → Advanced room before after last → after ≡ before + (after - before)
     sum (pos more) h = omega (arith, h.0)
     sum (negsuc k) h = omega (arith, h)
+
+-- where reading stopped, of an answer that was kept in a local, and of a room as long
+pub stopped_as : {room room' : ℕ} (came : ℕ) {last kept : ℤ} → room' ≡ room → kept ≡ last → Stopped room came last → Stopped room' came kept
+stopped_as {room} came {kept = kept} r k h = subst (λ (n : ℕ). Stopped n came kept) (sym r) (subst (Stopped room came) (sym k) h)
+
+-- after a failure nothing is handed over, else the line
+pub nothing_after : (last : ℤ) (text : Bytes) → lt_z last (pos 0) ≡ true → [] ≡ line_after last text
+nothing_after (pos k) text h = absurd (omega (arith, ltb-true k 0 h))
+nothing_after (negsuc k) text h = refl
+
+pub line_after_lem : (last : ℤ) (text : Bytes) {line : Bytes} → lt_z last (pos 0) ≡ false → line ≡ printed text → line ≡ line_after last text
+line_after_lem (pos k) text h made = made
+line_after_lem (negsuc k) text h made = absurd (true≢false h)

@@ -15,10 +15,10 @@ use Rattle.text.specs.Scans.{Found, scan_of}
 use Rattle.text.proofs.ScansLaws.{found, ended}
 use Rattle.text.specs.declared.Scan.{Scan}
 use Rattle.text.specs.declared.Scan.TheVariants as scan
-use Rattle.arithmetic.specs.Outcome.{gives, refuses}
+use Rattle.arithmetic.specs.Outcome.{gives}
 use Rattle.arithmetic.specs.declared.Fraction.{Fraction}
 use Rattle.grammar.specs.Format.{Symbol, Format, symbol, then, items, nothing, view}
-use Rattle.grammar.specs.Reading.{got, onward, decode, read_items, read}
+use Rattle.grammar.specs.Reading.{got, decode, read_items, read}
 use Rattle.grammar.specs.Layout.{symbol_cells, symbol_values, symbol_marks, gather, cells, values, Mark, marks}
 use Rattle.grammar.specs.Tables.{by_turns, laid}
 use Rattle.grammar.specs.Refusals.{refusal_number}

@@ -88,6 +88,12 @@ number_capped n w = go (leb n largest) refl
 pub numeral_digit : (n b : ℕ) (w : Bytes) → is_digit b ≡ true → numeral_after n (b ∷ w) ≡ numeral_after (min (n * 10 + (b - 48)) largest) w
 numeral_digit n b w e = rw e (ap (λ (k : ℕ). cond (every is_digit w) (Number k) NotDigits) (number_capped (n * 10 + (b - 48)) w))
 
+-- a byte before the digits is none
+pub numeral_stops : (n i to : ℕ) (text : List ℕ) → i < to → to ≤ length text → get_or text i 0 < 48 → numeral_after n (slice i to text) ≡ NotDigits
+unfolding is_digit
+numeral_stops n i to text h k below =
+    sym (settled {F = numeral_after n} {answer = numeral_after n (slice i to text)} (record { is = refl }) h k (λ w. rw (is_below 48 57 (get_or text i 0) below)))
+
 -- ---- a name among those of a row table, four cells for each row
 
 abbrev pub is_name_in : Bytes → Bytes → List ℕ → Bool

@@ -30,6 +30,7 @@ pub(crate) fn least(a: usize, b: usize) -> usize
 }
 
 // The number that the token spells.
+#[tactic(auto, using(crate::proofs::Turns::numeral_stops))]
 fn spelled(text: &[u8], from: usize, to: usize) -> Numeral
     requires { to ≤ length text.now }
     ensures { result ≡ numeral_of (slice from to text.now) }

@@ -7,7 +7,7 @@ use native.Mathlib.Omega.{arith}
 use Rattle.text.specs.Bytes.{Bytes}
 use Rattle.arithmetic.specs.Outcome.{Outcome, gives, refuses}
 use Rattle.arithmetic.specs.declared.Fraction.{Fraction}
-use Rattle.fraction_c.specs.Stored.{Stored, status}
+use Rattle.fraction.specs.Stored.{Stored, status}
 use Rattle.numerals.specs.Spelling.{SpellsValue}
 use Rattle.numerals.specs.ValueRead.{ValueRead}
 use Rattle.vipr_c.specs.Values.{ValueReturned}

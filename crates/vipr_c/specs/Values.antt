@@ -4,7 +4,7 @@
 use Rattle.std.specs.Prelude.{◌≡◌, ◌↔◌, ℕ}
 use Rattle.text.specs.Bytes.{Bytes}
 use Rattle.arithmetic.specs.declared.Fraction.{Fraction}
-use Rattle.fraction_c.specs.Stored.{Stored}
+use Rattle.fraction.specs.Stored.{Stored}
 use Rattle.numerals.specs.Spelling.{SpellsValue, SpellsTooWide, Misspelled}
 use Rattle.numerals.specs.Reading.{read_value}
 use Rattle.numerals.specs.ValueRead.{ValueRead}

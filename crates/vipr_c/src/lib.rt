@@ -3,7 +3,7 @@
 #![tactic(auto)]
 
 ghost use Rattle.std.specs.Prelude.{◌≡◌, ◌≤◌};
-ghost use Rattle.fraction_c.specs.Stored.{pair};
+ghost use Rattle.fraction.specs.Stored.{pair};
 ghost use Rattle.grammar.specs.Refusals.{refusal_number};
 ghost use Rattle.vipr_c.specs.Values.{ValueReturned};
 ghost use Rattle.vipr_c.specs.Shown.{TokenMeasured};

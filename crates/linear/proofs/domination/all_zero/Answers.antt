@@ -1,15 +1,12 @@
 -- `linear::domination::all_zero` meets its contract: each listed coefficient is tested.
-use mathlib.Core.Path.{◌≡◌, refl, ◌∙◌, ap, subst}
-use Prim.Native.Nat.{ℕ, ◌-◌, ◌≤◌, ◌<◌}
-use borrow.Author.Rules.{rules}
+use mathlib.Core.Path.{◌∙◌, ap, subst}
+use Prim.Native.Nat.{ℕ, ◌≤◌, ◌<◌}
 use Rattle.arithmetic.specs.Fraction.{exact}
 use Rattle.arithmetic.specs.declared.Fraction.{Fraction}
 use Rattle.tables.specs.Pairs.{pairs_in}
-use Rattle.grammar.specs.Tree.{Term}
-use Rattle.rules.specs.Tests.{all_of}
 use Rattle.rules.specs.Values.{is_zero}
-use Rattle.linear.specs.Lists.{a_term, terms_in}
-use Rattle.linear.specs.ListsLaws.{listed_from, listed_next, listed_none}
+use Rattle.linear.specs.Lists.{a_term}
+use Rattle.linear.specs.ListsLaws.{listed_next, listed_none}
 use Rattle.linear.proofs.TestsLaws.{tests_on, tests_stop, tests_end}
 use Rattle.linear.proofs.domination.all_zero.Goals as goal
 

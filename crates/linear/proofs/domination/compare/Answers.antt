@@ -1,7 +1,6 @@
 -- `linear::domination::compare` meets its contract: the count of those that are not zero tells both.
 use mathlib.Core.Path.{◌∙◌, ap}
 use Prim.Native.Nat.{ℕ}
-use borrow.Author.Rules.{rules}
 use lib.Dec.{eqb}
 use Rattle.arithmetic.specs.Fraction.{exact}
 use Rattle.rules.specs.Values.{is_zero}

@@ -1,7 +1,6 @@
 -- `linear::domination::is_absurd` meets its contract: the sense fails at 0, and all coefficients are 0.
 use mathlib.Core.Path.{refl, ◌∙◌}
 use Prim.Native.Nat.{ℕ}
-use borrow.Author.Rules.{rules}
 use Rattle.arithmetic.specs.Fraction.{exact}
 use Rattle.arithmetic.specs.declared.Fraction.{Fraction}
 use Rattle.rules.specs.Tests.{every_below}

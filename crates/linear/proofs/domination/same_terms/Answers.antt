@@ -1,13 +1,9 @@
 -- `linear::domination::same_terms` meets its contract: each listed term is compared, and those that are not zero are counted.
 use mathlib.Core.Path.{sym, ◌∙◌, ap, subst}
 use mathlib.Core.Bool.{Bool, cond, not}
-use mathlib.Core.Logic.{⊎_elim}
-use Prim.Native.Nat.{ℕ, ◌+◌, ◌-◌, ◌≤◌, ◌<◌}
-use native.Mathlib.Omega.{arith}
-use borrow.Author.Rules.{rules}
+use Prim.Native.Nat.{ℕ, ◌+◌, ◌≤◌, ◌<◌}
 use Rattle.tables.specs.Pairs.{pairs_in}
-use Rattle.linear.specs.Coefficients.{coefficients_of}
-use Rattle.linear.proofs.ComparingLaws.{Matched, matched, matched_not, matched_on, matched_end, found_same}
+use Rattle.linear.proofs.ComparingLaws.{matched_not, matched_on, matched_end, found_same}
 use Rattle.linear.proofs.domination.same_terms.Goals as goal
 use Rattle.linear.proofs.domination.same_terms.Goals.{then-not-is_zero, else-not-is_zero}
 
@@ -24,8 +20,8 @@ loop-k-preserved c =
     let found = c.loop-k.found in
     matched_on _ _ _ c.loop-k.invariant inside c.coefficient_at.ensures c.value_at-f.ensures c.is_same.ensures.parts c.if-not-is_same.false c.is_zero.ensures
     (elim c.if-not-is_zero.branch [
-      then-not-is_zero v ↦ v.found-is ∙ sym (ap (λ (b : Bool). cond (not b) (found + 1) found) v.if-not-is_zero.true)
-    | else-not-is_zero v ↦ v.found-is ∙ sym (ap (λ (b : Bool). cond (not b) (found + 1) found) v.if-not-is_zero.false)
+      | then-not-is_zero v ↦ v.found-is ∙ sym (ap (λ (b : Bool). cond (not b) (found + 1) found) v.if-not-is_zero.true)
+      | else-not-is_zero v ↦ v.found-is ∙ sym (ap (λ (b : Bool). cond (not b) (found + 1) found) v.if-not-is_zero.false)
     ])
 
 pub returns : goal.returns

@@ -1,11 +1,10 @@
 -- `linear::lists::coefficients_of` meets its contract: the arrays have the coefficients of the terms that the loop has passed.
 use mathlib.Core.Path.{◌∙◌, ap₂}
-use Prim.Native.Nat.{◌-◌, ◌<◌}
+use Prim.Native.Nat.{◌<◌}
 use lib.Signed.{mag}
-use native.Mathlib.Omega.{arith}
 use borrow.Author.Rules.{rules}
 use Rattle.integers.proofs.Casts.{back_of}
-use Rattle.linear.proofs.CoefficientsLaws.{a_fraction, Spread, spread_start, spread_on, spread_over, spread_end}
+use Rattle.linear.proofs.CoefficientsLaws.{a_fraction, spread_start, spread_on, spread_over}
 use Rattle.linear.proofs.lists.coefficients_of.Goals as goal
 
 pub loop-left-init : goal.loop-left-init

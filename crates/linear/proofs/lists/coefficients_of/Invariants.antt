@@ -1,5 +1,4 @@
 -- `linear::lists::coefficients_of` meets its contract: the arrays have the coefficients of the terms that the loop has passed.
-use Prim.Native.Nat.{◌-◌}
 use Rattle.linear.proofs.CoefficientsLaws.{Spread}
 use Rattle.linear.proofs.lists.coefficients_of.Given as goal
 

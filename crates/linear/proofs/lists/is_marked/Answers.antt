@@ -1,5 +1,4 @@
 -- `linear::lists::is_marked` meets its contract: no variable beyond the array is marked.
-use borrow.Author.Rules.{rules}
 use borrow.Author.Tests.{lt-ltb, le-ltb}
 use Rattle.linear.specs.Coefficients.{marked}
 use Rattle.linear.proofs.lists.is_marked.Goals as goal

@@ -1,11 +1,8 @@
 -- `linear::points::left_of` meets its contract: what is left to add gives the left side, from the sum so far on.
 use mathlib.Core.Path.{◌∙◌, subst}
-use Prim.Native.Nat.{ℕ, ◌-◌, ◌≤◌, ◌<◌}
-use native.Mathlib.Omega.{arith}
-use borrow.Author.Rules.{rules}
+use Prim.Native.Nat.{ℕ, ◌≤◌, ◌<◌}
 use Rattle.tables.specs.Pairs.{pairs_in}
-use Rattle.linear.specs.Coefficients.{coefficients_of}
-use Rattle.linear.proofs.PointsLaws.{Adding, adding, adding_on, adding_stop, adding_end, left-side}
+use Rattle.linear.proofs.PointsLaws.{adding, adding_on, adding_stop, adding_end, left-side}
 use Rattle.linear.proofs.points.left_of.Goals as goal
 
 pub loop-k-init : goal.loop-k-init

@@ -1,15 +1,10 @@
 -- `linear::rounding::are_integral` meets its contract: each listed term is tested.
-use mathlib.Core.Path.{◌≡◌, refl, ◌∙◌, ap₂, subst}
-use Prim.Native.Nat.{ℕ, ◌-◌, ◌≤◌, ◌<◌}
-use native.Mathlib.Omega.{arith}
-use borrow.Author.Rules.{rules}
+use mathlib.Core.Path.{◌∙◌, ap₂, subst}
+use Prim.Native.Nat.{ℕ, ◌≤◌, ◌<◌}
 use Rattle.tables.specs.Pairs.{pairs_in}
-use Rattle.grammar.specs.Tree.{Term}
-use Rattle.rules.specs.Tests.{all_of}
 use Rattle.senses.specs.Rounding.{may_stand}
-use Rattle.linear.specs.Lists.{a_term, terms_in}
-use Rattle.linear.specs.ListsLaws.{listed_from, listed_next, listed_none}
-use Rattle.linear.specs.Coefficients.{marked}
+use Rattle.linear.specs.Lists.{a_term}
+use Rattle.linear.specs.ListsLaws.{listed_next, listed_none}
 use Rattle.linear.proofs.TestsLaws.{tests_on, tests_stop, tests_end}
 use Rattle.linear.proofs.RoundingLaws.{integral_listed}
 use Rattle.linear.proofs.rounding.are_integral.Goals as goal

@@ -1,13 +1,9 @@
 -- `linear::rounding::is_integral` meets its contract: the loop tests each coefficient in the arrays; those beyond them are 0.
-use mathlib.Core.Path.{◌≡◌, refl, sym, ◌∙◌, ap₂}
-use mathlib.Core.Bool.{true}
-use Prim.Native.Nat.{◌-◌}
+use mathlib.Core.Path.{◌≡◌, sym, ◌∙◌, ap₂}
 use native.Mathlib.Omega.{arith}
-use borrow.Author.Rules.{rules}
-use Rattle.rules.specs.Tests.{every_below}
 use Rattle.senses.specs.Rounding.{may_stand}
 use Rattle.linear.specs.Coefficients.{coefficients_of}
-use Rattle.linear.proofs.TestsLaws.{every_on, every_stop, every_end}
+use Rattle.linear.proofs.TestsLaws.{every_stop, every_end}
 use Rattle.linear.proofs.RoundingLaws.{integral_at, integral_beyond, integral_is}
 use Rattle.linear.proofs.rounding.is_integral.Goals as goal
 

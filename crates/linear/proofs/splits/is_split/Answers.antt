@@ -4,7 +4,6 @@ use mathlib.Core.Bool.{◌||◌}
 use mathlib.Core.List.{List}
 use Prim.Native.Nat.{ℕ}
 use lib.IntN.{ℤ}
-use borrow.Author.Rules.{rules}
 use Rattle.arithmetic.specs.declared.Fraction.{Fraction}
 use Rattle.senses.specs.declared.Sense.{Sense}
 use Rattle.rules.specs.Rows.{value_in, Constraint}

@@ -1,17 +1,14 @@
 -- `linear::combinations::Combination::next` meets its contract: what is left to add gives the same as all terms; then the right
 -- side.
-use mathlib.Core.Path.{◌≡◌, sym, ◌∙◌, ap, ap₂, subst}
-use mathlib.Core.Logic.{⊎_elim}
-use Prim.Native.Nat.{ℕ, ◌-◌, ◌≤◌, ◌<◌}
-use native.Mathlib.Omega.{arith}
+use mathlib.Core.Path.{sym, ◌∙◌, ap, ap₂, subst}
+use Prim.Native.Nat.{ℕ, ◌≤◌, ◌<◌}
 use borrow.Author.Rules.{rules}
-use lib.ListN.{length}
 use lib.Signed.{mag}
 use Rattle.integers.proofs.Casts.{back_of}
 use Rattle.arithmetic.specs.declared.Arithmetic.TheVariants.{Value}
 use Rattle.tables.specs.Pairs.{pairs_in}
 use Rattle.linear.proofs.CoefficientsLaws.{a_fraction}
-use Rattle.linear.proofs.CombinationsLaws.{Combining, combining, combining_over, combining_on, combining_stop, combining_same, combining_fractions, combined, combined_fractions, combined_not}
+use Rattle.linear.proofs.CombinationsLaws.{combining_over, combining_on, combining_stop, combining_same, combining_fractions, combined, combined_fractions, combined_not}
 use Rattle.linear.proofs.combinations.Combination.next.Goals as goal
 use Rattle.linear.proofs.combinations.Combination.next.Goals.{then-v-lt-VARIABLES+in-Value, else-v-lt-VARIABLES}
 
@@ -27,14 +24,14 @@ pub loop-k-preserved : goal.loop-k-preserved
 loop-k-preserved c =
     let inside : let a = c.args in c.loop-k.k < pairs_in a.variables.now a.parts.now = subst (λ (n : ℕ). c.loop-k.k < n) c.pairs_in-count.ensures c.loop-k-test.true in
     elim c.if-v-lt-VARIABLES.branch [
-      then-v-lt-VARIABLES+in-Value w ↦
+      | then-v-lt-VARIABLES+in-Value w ↦
           let s = w.in-Value.s in
           let num_fits : mag s.num < 2147483648 = search rules in
           let den_fits : mag s.den < 2147483648 = search rules in
           combining_same _ _ _ _ _ w.self-is
           (combining_on _ _ _ _ _ c.loop-k.invariant inside w.value_at-f.ensures w.coefficient_at-old.ensures w.plus_product.result w.plus_product.ensures _ _ w.if-v-lt-VARIABLES.true
           (w.in-Value.is ∙ ap Value (ap₂ a_fraction (sym (back_of _ num_fits)) (sym (back_of _ den_fits)))))
-    | else-v-lt-VARIABLES w ↦ combining_same _ _ _ _ _ w.self-is (combining_over _ _ _ _ _ c.loop-k.invariant inside w.if-v-lt-VARIABLES.false)
+      | else-v-lt-VARIABLES w ↦ combining_same _ _ _ _ _ w.self-is (combining_over _ _ _ _ _ c.loop-k.invariant inside w.if-v-lt-VARIABLES.false)
     ]
 
 pub returns-in_default-plus_product : goal.returns-in_default-plus_product

@@ -1,14 +1,9 @@
 -- `linear::domination::Compared::dominates` meets its contract: an absurdity, or equal coefficients and then the right sides.
 use mathlib.Core.Path.{◌≡◌, refl, sym, ◌∙◌}
 use mathlib.Core.Bool.{false}
-use mathlib.Core.Logic.{⊎_elim}
-use Prim.Native.Nat.{ℕ}
-use borrow.Author.Rules.{rules}
-use Rattle.arithmetic.specs.declared.Fraction.{Fraction}
 use Rattle.rules.specs.Domination.{is_absurd, same_coefficients, dominates}
 use Rattle.senses.specs.Senses.{constraint_by}
 use Rattle.senses.proofs.Truth.{and_yes, and_no, or_yes, or_no}
-use Rattle.linear.specs.Comparing.{Compares}
 use Rattle.linear.proofs.domination.Compared.dominates.Goals as goal
 use Rattle.linear.proofs.domination.Compared.dominates.Goals.{then-self+else-fails_at_zero, else-self}
 
@@ -22,8 +17,8 @@ returns-then-self-2 c =
     λ n coefficient row h v w.
     let a = c.args in
     let not_absurd : false ≡ is_absurd n (constraint_by coefficient a.s a.a) = elim c.if-self.branch [
-      then-self+else-fails_at_zero w ↦ sym w.if-fails_at_zero.false ∙ w.fails_at_zero.ensures ∙ and_yes _ h.zero w.if-self.true
-    | else-self w ↦ and_no _ h.zero w.if-self.false
+      | then-self+else-fails_at_zero w ↦ sym w.if-fails_at_zero.false ∙ w.fails_at_zero.ensures ∙ and_yes _ h.zero w.if-self.true
+      | else-self w ↦ and_no _ h.zero w.if-self.false
     ] in
     c.is_tighter.ensures v w ∙ and_yes _ h.same c.if-self-2.true ∙ or_no _ not_absurd refl
 
@@ -33,7 +28,7 @@ returns c =
     λ n coefficient row h v w.
     let a = c.args in
     let not_absurd : false ≡ is_absurd n (constraint_by coefficient a.s a.a) = elim c.if-self.branch [
-      then-self+else-fails_at_zero w ↦ sym w.if-fails_at_zero.false ∙ w.fails_at_zero.ensures ∙ and_yes _ h.zero w.if-self.true
-    | else-self w ↦ and_no _ h.zero w.if-self.false
+      | then-self+else-fails_at_zero w ↦ sym w.if-fails_at_zero.false ∙ w.fails_at_zero.ensures ∙ and_yes _ h.zero w.if-self.true
+      | else-self w ↦ and_no _ h.zero w.if-self.false
     ] in
     and_no _ h.same c.if-self-2.false ∙ or_no _ not_absurd refl

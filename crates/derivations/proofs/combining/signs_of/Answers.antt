@@ -1,0 +1,20 @@
+-- `derivations::combining::signs_of` meets its contract: the signs so far, with those of the multipliers that are left, are those of all.
+use mathlib.Core.Path.{subst}
+use Prim.Native.Nat.{ℕ, ◌≤◌, ◌<◌}
+use Rattle.tables.specs.Pairs.{pairs_in}
+use Rattle.linear.specs.ListsLaws.{listed_next, listed_none}
+use Rattle.encoding.specs.Places.{a_multiplier}
+use Rattle.derivations.proofs.CombiningLaws.{multiplier-below, signing_on, signing_end, signed_is}
+use Rattle.derivations.proofs.combining.signs_of.Goals as goal
+
+pub loop-k-preserved : goal.loop-k-preserved
+loop-k-preserved c =
+    let inside : let a = c.args in c.loop-k.k < pairs_in a.named.now a.factors.now = subst (λ (n : ℕ). c.loop-k.k < n) c.pairs_in-count.ensures c.loop-k-test.true in
+    λ tree header values e below.
+    signing_on (listed_next a_multiplier _ _ _ inside) (c.loop-k.invariant tree header values e below) _ c.next-signs.ensures
+    (signed_is tree _ (c.sense_at-sense.ensures tree values _ _ (e.row _ (multiplier-below _ _ _ below _ inside).0)) c.value_at-factor.ensures)
+
+pub returns : goal.returns
+returns c =
+    λ tree header values e below.
+    signing_end (listed_none a_multiplier _ _ _ (subst (λ (n : ℕ). n ≤ c.loop-k.k) c.pairs_in-count.ensures c.loop-k-test.false)) (c.loop-k.invariant tree header values e below)

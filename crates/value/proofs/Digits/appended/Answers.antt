@@ -1,0 +1,21 @@
+-- `value::Digits::appended` meets its contract, by the test of how many digits count then.
+-- Assumes nothing.
+use native.Mathlib.Omega.{arith}
+use Rattle.value.proofs.Steps.{appended_wide, appended_fits, appended_narrow}
+use Rattle.value.proofs.Digits.appended.Goals as goal
+
+pub returns-then-count-gt-MOST_DIGITS : goal.returns-then-count-gt-MOST_DIGITS
+returns-then-count-gt-MOST_DIGITS c = appended_wide _ _ _ c.if-count-gt-MOST_DIGITS.true
+
+-- the number with the digits after it fits
+pub overflow_mul-result : goal.overflow_mul-result
+overflow_mul-result c =
+    let h = appended_fits c.args.self _ _ _ c.power_of_ten.ensures c.if-count-gt-MOST_DIGITS.false c.requires.1 c.requires.2 in
+    record { fits = omega (arith, h) }
+
+pub overflow_add-result : goal.overflow_add-result
+overflow_add-result c =
+    record { fits = appended_fits c.args.self _ _ _ c.power_of_ten.ensures c.if-count-gt-MOST_DIGITS.false c.requires.1 c.requires.2 }
+
+pub returns : goal.returns
+returns c = appended_narrow _ _ _ _ c.power_of_ten.ensures c.if-count-gt-MOST_DIGITS.false c.requires.1 c.requires.2

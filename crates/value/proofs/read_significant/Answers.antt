@@ -1,0 +1,15 @@
+-- `value::read_significant` meets its contract: the run of the digits after the leading zeros.
+-- Assumes nothing.
+use mathlib.Core.Path.{subst}
+use lib.ListN.{drop}
+use Rattle.value.specs.Runs.{RunRead}
+use Rattle.value.specs.declared.Digits.{Digits}
+use Rattle.value.proofs.Runs.{significant_read}
+use Rattle.value.proofs.read_significant.Goals as goal
+
+pub returns : goal.returns
+returns c =
+    let a = c.args in
+    let first = c.skip_zeros.result in
+    significant_read a.token.now a.from first c.skip_zeros.ensures c.read_run.result
+    (subst (λ (d : Digits). RunRead (drop first a.token.now) first d c.read_run.result) c.none.ensures c.read_run.ensures)
