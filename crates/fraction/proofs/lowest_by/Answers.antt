@@ -21,7 +21,7 @@ is_lowest_by-requires-then-is_lowest_by c =
     let positive : 0 < c.args.g = divisor_positive c.args.q.top c.args.q.bottom c.args.g c.requires.0.positive c.requires.1 in
     let of_a : gcd (nat_abs c.args.a.num) (nat_abs c.args.a.den) ∣ c.args.g = subst (λ (n : ℕ). gcd (nat_abs c.args.a.num) (nat_abs c.args.a.den) ∣ n) (sym c.requires.1) (first_divides c.requires.0) in
     let of_b : gcd (nat_abs c.args.b.num) (nat_abs c.args.b.den) ∣ c.args.g = subst (λ (n : ℕ). gcd (nat_abs c.args.b.num) (nat_abs c.args.b.den) ∣ n) (sym c.requires.1) (second_divides c.requires.0) in
-    (positive, search (of_a, of_b))
+    (positive, assumption)
 
 pub nonzero_div-q : goal.nonzero_div-q
 nonzero_div-q c = divisor_positive c.args.q.top c.args.q.bottom c.args.g c.requires.0.positive c.requires.1
