@@ -1,4 +1,5 @@
--- Reading standard input, read by read. What a read puts into the text, no contract can say.
+-- Reading standard input, read by read: how many bytes came, and where reading stops. What a read puts into the text, the contracts say
+-- where the bytes that the reader has are known.
 -- Assumes nothing.
 use Rattle.std.specs.Prelude.{ℕ, zero, suc, ◌+◌, ◌≤◌, ◌≡◌, ℤ, pos, negsuc}
 
