@@ -131,8 +131,7 @@ def main(dry):
             print("two to one:", new, olds)
             bad += 1
     for name in sorted(turned):
-        if dry != "quiet":
-            print(name, "->", turned[name])
+        print(name, "->", turned[name])
     print(len(turned), "names,", bad, "fall together")
     if dry:
         return
@@ -160,4 +159,4 @@ def main(dry):
             open(p, "w", encoding="utf-8").write(n)
 
 
-main("dry" if "--dry" in sys.argv else "quiet" if "--quiet" in sys.argv else None)
+main("--dry" in sys.argv)
