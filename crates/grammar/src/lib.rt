@@ -5,10 +5,12 @@
 ghost use Rattle.std.specs.Prelude.{◌≡◌};
 ghost use Rattle.grammar.specs.Refusals.{refusal_number};
 
-// The reasons of refusal, in the order of document 01's table, which numbers them from 1.
-#[derive(Clone, Copy)]
+use std::fmt;
+
+// The reasons of refusal, in the order of document 01's table, with its numbers.
+#[derive(Clone, Copy, Debug, PartialEq, Eq)]
 pub enum Refusal {
-    TableTooSmall,
+    TableTooSmall = 1,
     TextTooLong,
     TokenMissing,
     WrongKind,
@@ -29,27 +31,30 @@ pub enum Refusal {
 }
 
 // A refusal's number.
-pub fn number(refusal: Refusal) -> u8
-    ensures { result ≡ refusal_number refusal }
-{
-    match refusal {
-        Refusal::TableTooSmall => 1,
-        Refusal::TextTooLong => 2,
-        Refusal::TokenMissing => 3,
-        Refusal::WrongKind => 4,
-        Refusal::OutOfRange => 5,
-        Refusal::UsedBefore => 6,
-        Refusal::ValueTooWide => 7,
-        Refusal::TokenLeft => 8,
-        Refusal::SolutionFails => 9,
-        Refusal::ClaimNotReached => 10,
-        Refusal::RowSpent => 11,
-        Refusal::ResultTooWide => 12,
-        Refusal::MultipliersNotSuitable => 13,
-        Refusal::CannotBeRounded => 14,
-        Refusal::NoDomination => 15,
-        Refusal::NoProperSplit => 16,
-        Refusal::ClaimNotProved => 17,
-        Refusal::NoSolutionListed => 18,
+impl From<Refusal> for u8 {
+    ghost from_gives = { λ refusal n. n ≡ refusal_number refusal };
+
+    fn from(refusal: Refusal) -> u8 {
+        refusal as u8
+    }
+}
+
+// Where reading or checking stops: the reason, and the byte place of the token, name or word that is refused.
+#[derive(Clone, Copy, Debug, PartialEq, Eq)]
+pub struct Stop {
+    pub reason: Refusal,
+    pub place: usize,
+}
+
+// A refusal as it is reported: the reason, and the line.
+#[derive(Clone, Copy, Debug, PartialEq, Eq)]
+pub struct Refused {
+    pub reason: Refusal,
+    pub line: usize,
+}
+
+impl fmt::Display for Refused {
+    fn fmt<W: fmt::Write>(&self, f: &mut fmt::Formatter<W>) -> fmt::Result {
+        write!(f, "refused {} {}", u8::from(self.reason), self.line)
     }
 }

@@ -1,11 +1,7 @@
 // What a test of a certificate that was read answers.
 #![tactic(auto)]
 
-use grammar::Refusal;
+use grammar::Stop;
 
-// Nothing to refuse, or the first reason and the place of the name or word that it is refused at.
-#[derive(Clone, Copy)]
-pub enum Verdict {
-    Fine,
-    Refused(Refusal, usize),
-}
+// Nothing to refuse; or the first reason, and the place of the name or word that it is refused at.
+pub type Verdict = Result<(), Stop>;
