@@ -1,16 +1,13 @@
 -- The cells of a row, read by its entry of the row table.
 -- Assumes nothing.
 use mathlib.Core.Path.{◌≡◌, refl, sym, ap, ◌∙◌}
-use mathlib.Core.Bool.{Bool, true, false, cond}
 use mathlib.Core.List.{List}
 use Prim.Native.Nat.{ℕ, ◌+◌, ◌≤◌}
 use native.Mathlib.Omega.{arith}
-use borrow.Author.Tests.{eq-eqb, ne_eqb}
-use lib.Dec.{eqb}
+use borrow.Author.Tests.{eq-eqb}
 use lib.IntN.{ℤ}
 use lib.ListN.{get_or}
 use Rattle.arithmetic.specs.declared.Fraction.{Fraction}
-use Rattle.tables.specs.Limits.{largest}
 use Rattle.tables.specs.Words as word
 use Rattle.tables.specs.Cells.{CellIs, fraction_at, EntryIs}
 use Rattle.tables.specs.declared.Entry.{Entry}
@@ -35,36 +32,6 @@ sense_other equal p q e = absurd (p e)
 sense_other at_most p q e = absurd (q e)
 sense_other at_least p q e = refl
 
--- ---- the terms of a row
-
-pub own_some : (count : ℕ) → (count ≡ word.OBJ → ⊥) → count ≡ own_terms count
-unfolding own_terms
-own_some count n = sym (ap (λ (b : Bool). cond b 0 count) (ne_eqb count word.OBJ n))
-
-pub own_none : (count : ℕ) → count ≡ word.OBJ → 0 ≡ own_terms count
-unfolding own_terms
-own_none count e = sym (ap (λ (b : Bool). cond b 0 count) (eq-eqb count word.OBJ e))
-
--- a row has at most as many terms of its own as the cell says
-pub own_most : (count : ℕ) → own_terms count ≤ count
-unfolding own_terms
-own_most count = go (eqb count word.OBJ)
-  where
-    go : (b : Bool) → cond b 0 count ≤ count
-    go true = omega arith
-    go false = omega arith
-
-module _ {index : List ℕ} (objective : Pairs) (cell number : ℕ) {count : ℕ} (c : CellIs index (cell + 1) count) where
-  pub side-objective : count ≡ word.OBJ → objective ≡ side_at index objective cell number
-  unfolding side_at
-  side-objective q = sym (ap (λ (b : Bool). cond b objective (pairs_from index (cell + 1) (number + 1))) (eq-eqb (get_or index (cell + 1) 0) word.OBJ (sym c.is ∙ q)))
-
-  pub side-own : (count ≡ word.OBJ → ⊥) → record { cell = cell + 1 + 1; number = number + 1; count = count } ≡ side_at index objective cell number
-  unfolding side_at
-  side-own n =
-      (λ i. record { cell = cell + 1 + 1; number = number + 1; count = c.is i })
-      ∙ sym (ap (λ (b : Bool). cond b objective (pairs_from index (cell + 1) (number + 1))) (ne_eqb (get_or index (cell + 1) 0) word.OBJ (λ q. n (c.is ∙ q))))
-
 module _ {index rows : List ℕ} {r : ℕ} {e : Entry} (h : EntryIs rows r e) {count : ℕ} (c : CellIs index (e.cell + 1) count) where
   count_is : count ≡ count_of index rows r
   count_is = c.is ∙ ap (λ (i : ℕ). get_or index (i + 1) 0) h.cell.is
@@ -75,11 +42,8 @@ module _ {index rows : List ℕ} {r : ℕ} {e : Entry} (h : EntryIs rows r e) {c
     own_is : own ≡ own_terms (count_of index rows r)
     own_is = o ∙ ap own_terms count_is
 
-    pub own_small : own ≤ largest
-    own_small = omega (arith, o, own_most count, c.small)
-
-    pub reason_is : ReasonIs index rows r (e.cell + 2 + own)
-    reason_is = record { is = (λ i. h.cell.is i + 2 + own_is i); small = omega (arith, own_small, h.cell.small) }
+    pub reason_is : own ≤ count → ReasonIs index rows r (e.cell + 2 + own)
+    reason_is l = record { is = (λ i. h.cell.is i + 2 + own_is i); small = omega (arith, l, c.small, h.cell.small) }
 
     pub multipliers_are : {many : ℕ} → CellIs index (e.cell + 2 + own + 1) many
         → record { cell = e.cell + 2 + own + 1 + 1; number = e.number + 1 + own; count = many } ≡ multipliers_of index rows r

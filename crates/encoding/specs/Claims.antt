@@ -1,15 +1,14 @@
 -- The ends of a claim, and what fetching one gives.
 -- Assumes nothing.
-use Rattle.std.specs.Prelude.{Bool, true, false, cond}
+use Rattle.std.specs.Prelude.{Bool, true, false, cond, Option, Some, None}
+use Rattle.arithmetic.specs.declared.Fraction.{Fraction}
 use Rattle.grammar.specs.Tree.{infinite, finite, Claim, infeas, range}
 use Rattle.grammar.specs.Tree as tree
-use Rattle.encoding.specs.declared.claims.End.{End}
-use Rattle.encoding.specs.declared.claims.End.TheVariants as end
 
--- for each case of the enum, the end that it is
-abbrev pub end_says : End → tree.End
-end_says end.Infinite = infinite
-end_says (end.Finite f) = finite f
+-- the end that an answer is: none is infinite
+abbrev pub end_says : Option Fraction → tree.End
+end_says None = infinite
+end_says (Some f) = finite f
 
 -- the claim is `infeas`
 abbrev pub is_infeas : Claim → Bool

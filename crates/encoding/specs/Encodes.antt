@@ -18,6 +18,7 @@ use Rattle.rules.specs.Tests.{All}
 use Rattle.rules.specs.Rows.{variables, objective, terms_of, no_row, row_at}
 use Rattle.rules.specs.Derivations.{named}
 use Rattle.rules.specs.Sentence.Formed.{Formed, RowFormed, WellFormed}
+use Rattle.encoding.specs.declared.Certificate.{Certificate}
 use Rattle.encoding.specs.Places.{terms_at, multipliers_at, integers_at, place_of, cell_of, number_of, side_of, solution_of, word_of, multipliers_of, named_by, last_of}
 
 -- ---- rows
@@ -102,3 +103,10 @@ pub record Encodes (tree : Tree) (h : Header) (index : List ℕ) (values : List 
   pub derivation : (k : ℕ) → h.given + k < h.rows → EncodesDerivation index values rows (h.given + k) (derivation_at tree k)
   pub solution : (j : ℕ) → j < h.solutions → EncodesSolution (variables tree) index values rows j (solution_at tree j)
   pub claim : EncodesClaim index values h.claim h.ends tree.relation.claim
+
+-- the same of a certificate of the code, which has its tables and its header: the whole, and row r
+abbrev pub Holds : Tree → Certificate → Type 0
+Holds tree c = Encodes tree c.header c.index.now c.values.now c.rows.now
+
+abbrev pub HoldsRow : Tree → Certificate → ℕ → Row → Type 0
+HoldsRow tree c r row = EncodesRow tree c.index.now c.values.now c.rows.now c.header.objective r row

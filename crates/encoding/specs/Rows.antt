@@ -1,9 +1,12 @@
 -- What fetching a row and a reason gives.
 -- Assumes nothing.
-use Rattle.std.specs.Prelude.{◌≡◌, List, ℕ, ◌≤◌, ℤ}
+use Rattle.std.specs.Prelude.{◌≡◌, Option, Some, None, List, ℕ, ◌≤◌, ℤ}
 use Rattle.tables.specs.Limits.{largest}
-use Rattle.grammar.specs.Tree.{Row, Tree}
+use Rattle.tables.specs.Words as word
+use Rattle.grammar.specs.Tree.{Row, Last, never, index as at, Tree}
 use Rattle.grammar.specs.Certificate.{ReasonWord, asm_word, lin_word, rnd_word, uns_word, sol_word}
+use Rattle.grammar.specs.Contents.{last_cell}
+use Rattle.grammar.specs.Ranges.{LastInRange}
 use Rattle.rules.specs.Rows.{terms_of}
 use Rattle.senses.specs.Senses.{sense_is}
 use Rattle.encoding.specs.Places.{terms_at, reason_of, last_of}
@@ -23,10 +26,23 @@ pub record ReasonIs (index rows : List ℕ) (r q : ℕ) : Type 0 where
   pub is : q ≡ reason_of index rows r
   pub small : q ≤ 131072
 
--- a last index
-pub record LastIs (index rows : List ℕ) (r l : ℕ) : Type 0 where
-  pub is : l ≡ last_of index rows r
-  pub small : l ≤ largest
+-- the last index that an answer is: none is never
+abbrev pub last_says : Option ℕ → Last
+last_says None = never
+last_says (Some i) = at i
+
+-- the last index of row r, whose cell it is
+pub record LastIs (index rows : List ℕ) (r : ℕ) (l : Option ℕ) : Type 0 where
+  pub is : last_cell (last_says l) ≡ last_of index rows r
+  pub small : LastInRange largest (last_says l)
+
+-- the word that a cell is read as: each has its own, and a number that is no word's is read as `sol`
+abbrev pub IsWord : ℕ → Word → Type 0
+IsWord cell Asm = cell ≡ word.asm
+IsWord cell Lin = cell ≡ word.lin
+IsWord cell Rnd = cell ≡ word.rnd
+IsWord cell Uns = cell ≡ word.uns
+IsWord cell Sol = word.sol ≤ cell
 
 -- for each case of the enum, the word of a reason
 abbrev pub word_says : Word → ReasonWord

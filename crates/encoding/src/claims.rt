@@ -6,52 +6,42 @@ ghost use Rattle.grammar.specs.Contents.{end_cell};
 ghost use Rattle.encoding.specs.Encodes.{EncodesEnd, EncodesClaim};
 ghost use Rattle.encoding.specs.Claims.{end_says, is_infeas, end_in};
 
+use crate::Certificate;
 use arithmetic::Fraction;
 use tables::words;
 
-// An end of a range.
-#[derive(Clone, Copy)]
-pub enum End {
-    Infinite,
-    Finite(Fraction),
-}
-
-// Whether the claim whose word stands in this cell is `infeas`.
-pub fn is_infeas(index: &[u16], claim: usize) -> bool
-    ensures { (c : Claim) → get_or index.now claim 0 ≡ claim_cell (of_claim c).0 → result ≡ is_infeas c }
-{
-    tables::cell_at(index, claim) == words::INFEAS
-}
-
-// The end whose cell stands so many after the claim's word; if it is finite, its value has the number so many after the first.
-fn end_at(
-    index: &[u16],
-    values: &[i32],
-    claim: usize,
-    offset: usize,
-    ends: usize,
-    before: usize,
-) -> End
-    ensures { (e : TreeEnd) → get_or index.now (claim + offset) 0 ≡ end_cell e → EncodesEnd values.now (ends + before) e → end_says result ≡ e }
-{
-    if tables::cell_from(index, claim, offset) == words::INFINITE {
-        return End::Infinite;
+impl<'a> Certificate<'a> {
+    // Whether the claim is `infeas`.
+    pub fn is_infeas(self) -> bool
+        ensures { (c : Claim) → get_or self.entry.index.now self.entry.header.claim 0 ≡ claim_cell (of_claim c).0 → result ≡ is_infeas c }
+    {
+        tables::cell_at(self.index, self.header.claim) == words::INFEAS
     }
-    End::Finite(tables::value_from(values, ends, before))
-}
 
-// The upper or the lower end of the claim whose word stands in this cell, and whose ends' values begin with this number; `infeas`
-// has none.
-pub fn end_of(index: &[u16], values: &[i32], claim: usize, ends: usize, upper: bool) -> End
-    ensures { (c : Claim) → EncodesClaim index.now values.now claim ends c → end_says result ≡ end_in upper c }
-{
-    if is_infeas(index, claim) {
-        return End::Infinite;
+    // The end whose cell stands so many after the claim's word; if it is finite, its value has the number so many after the first.
+    fn end_at(self, offset: usize, before: usize) -> Option<Fraction>
+        ensures { (e : TreeEnd) → get_or self.entry.index.now (self.entry.header.claim + offset) 0 ≡ end_cell e → EncodesEnd self.entry.values.now (self.entry.header.ends + before) e → end_says result ≡ e }
+    {
+        let header = self.header;
+        if tables::cell_from(self.index, header.claim, offset) == words::INFINITE {
+            None
+        } else {
+            Some(tables::value_from(self.values, header.ends, before))
+        }
     }
-    if upper {
-        let before = tables::cell_from(index, claim, 1);
-        end_at(index, values, claim, 2, ends, before)
-    } else {
-        end_at(index, values, claim, 1, ends, 0)
+
+    // The upper or the lower end of the claim, if it is finite; `infeas` has none.
+    pub fn end(self, upper: bool) -> Option<Fraction>
+        ensures { (c : Claim) → EncodesClaim self.entry.index.now self.entry.values.now self.entry.header.claim self.entry.header.ends c → end_says result ≡ end_in upper c }
+    {
+        if self.is_infeas() {
+            return None;
+        }
+        if upper {
+            let before = tables::cell_from(self.index, self.header.claim, 1);
+            self.end_at(2, before)
+        } else {
+            self.end_at(1, 0)
+        }
     }
 }

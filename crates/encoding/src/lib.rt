@@ -3,7 +3,18 @@
 // that encode one.
 #![tactic(auto)]
 
+use tables::Header;
+
 pub mod claims;
 pub mod integer_variables;
 pub mod reasons;
 pub mod rows;
+
+// A certificate in tables: the index table, the value table, the row table, and the counts and places of its parts.
+#[derive(Clone, Copy)]
+pub struct Certificate<'a> {
+    pub index: &'a [u16],
+    pub values: &'a [i32],
+    pub rows: &'a [u16],
+    pub header: Header,
+}

@@ -1,14 +1,14 @@
 // Rows, given and derived, and solutions.
-ghost use Rattle.std.specs.Prelude.{◌≡◌, List, ◌≤◌, ℤ};
+ghost use Rattle.std.specs.Prelude.{◌≡◌, ◌≤◌};
 ghost use Rattle.tables.specs.Limits.{largest};
-ghost use Rattle.tables.specs.declared.Pairs.{Pairs as PairsOf};
 ghost use Rattle.grammar.specs.Tree.{Sense as TreeSense, Row, Tree};
 ghost use Rattle.grammar.specs.Certificate.{sense_cell};
 ghost use Rattle.senses.specs.Senses.{sense_is};
 ghost use Rattle.encoding.specs.Places.{side_at, solution_of};
-ghost use Rattle.encoding.specs.Encodes.{EncodesRow};
+ghost use Rattle.encoding.specs.Encodes.{HoldsRow};
 ghost use Rattle.encoding.specs.Rows.{RowIs};
 
+use crate::Certificate;
 use arithmetic::Fraction;
 use senses::Sense;
 use tables::{Pairs, words};
@@ -26,64 +26,62 @@ pub struct ListedRow {
 fn sense_of(cell: usize) -> Sense
     ensures { (s : TreeSense) → cell ≡ sense_cell s → sense_is result ≡ s }
 {
-    if cell == words::E {
-        return Sense::Equal;
-    }
-    if cell == words::L {
-        return Sense::AtMost;
-    }
-    Sense::AtLeast
-}
-
-// Where the terms of a row stand: its own, or the objective's. Its sense stands in this cell, its right side has this number.
-fn side_at(index: &[u16], objective: Pairs, cell: usize, number: usize) -> Pairs
-    requires { (cell ≤ largest) × (number ≤ largest) }
-    ensures { result ≡ side_at index.now objective cell number }
-{
-    let count = tables::cell_at(index, cell + 1);
-    if count == words::OBJ {
-        return objective;
-    }
-    Pairs {
-        cell: cell + 1 + 1,
-        number: number + 1,
-        count: count,
+    match cell {
+        words::E => Sense::Equal,
+        words::L => Sense::AtMost,
+        _ => Sense::AtLeast,
     }
 }
 
-// The sense of row r.
-pub fn sense_at(index: &[u16], rows: &[u16], r: usize) -> Sense
-    ensures { (tree : Tree) (values : List ℤ) (objective : PairsOf) (row : Row) → EncodesRow tree index.now values rows.now objective r row → sense_is result ≡ row.sense }
-{
-    let e = tables::entry_at(rows, r);
-    sense_of(tables::cell_at(index, e.cell))
-}
-
-// Row r, if the objective's terms stand there.
-pub fn row_at(index: &[u16], values: &[i32], rows: &[u16], objective: Pairs, r: usize) -> ListedRow
-    ensures { (tree : Tree) (row : Row) → EncodesRow tree index.now values.now rows.now objective r row → RowIs tree index.now values.now row result }
-{
-    let e = tables::entry_at(rows, r);
-    let sense = sense_of(tables::cell_at(index, e.cell));
-    let right = tables::value_at(values, e.number);
-    let terms = side_at(index, objective, e.cell, e.number);
-    ListedRow {
-        place: e.place,
-        sense: sense,
-        right: right,
-        terms: terms,
+impl<'a> Certificate<'a> {
+    // Where the terms of a row stand: its own, or the objective's. Its sense stands in this cell, its right side has this number.
+    #[tactic(auto, unfolding(crate::specs::Places::side_at))]
+    fn side(self, cell: usize, number: usize) -> Pairs
+        requires { (cell ≤ largest) × (number ≤ largest) }
+        ensures { result ≡ side_at self.entry.index.now self.entry.header.objective cell number }
+    {
+        let count = tables::cell_at(self.index, cell + 1);
+        if count == words::OBJ {
+            self.header.objective
+        } else {
+            Pairs {
+                cell: cell + 1 + 1,
+                number: number + 1,
+                count,
+            }
+        }
     }
-}
 
-// Where the terms of solution j stand.
-pub fn solution_terms(index: &[u16], rows: &[u16], j: usize) -> Pairs
-    ensures { result ≡ solution_of index.now rows.now j }
-{
-    let e = tables::solution_at(rows, j);
-    let count = tables::cell_at(index, e.cell);
-    Pairs {
-        cell: e.cell + 1,
-        number: e.number,
-        count: count,
+    // The sense of row r.
+    pub fn sense(self, r: usize) -> Sense
+        ensures { (tree : Tree) (row : Row) → HoldsRow tree self.entry r row → sense_is result ≡ row.sense }
+    {
+        let entry = tables::entry_at(self.rows, r);
+        sense_of(tables::cell_at(self.index, entry.cell))
+    }
+
+    // Row r.
+    pub fn row(self, r: usize) -> ListedRow
+        ensures { (tree : Tree) (row : Row) → HoldsRow tree self.entry r row → RowIs tree self.entry.index.now self.entry.values.now row result }
+    {
+        let entry = tables::entry_at(self.rows, r);
+        ListedRow {
+            place: entry.place,
+            sense: sense_of(tables::cell_at(self.index, entry.cell)),
+            right: tables::value_at(self.values, entry.number),
+            terms: self.side(entry.cell, entry.number),
+        }
+    }
+
+    // Where the terms of solution j stand.
+    pub fn solution(self, j: usize) -> Pairs
+        ensures { result ≡ solution_of self.entry.index.now self.entry.rows.now j }
+    {
+        let entry = tables::solution_at(self.rows, j);
+        Pairs {
+            cell: entry.cell + 1,
+            number: entry.number,
+            count: tables::cell_at(self.index, entry.cell),
+        }
     }
 }

@@ -1,5 +1,5 @@
 use Rattle.encoding.proofs.Marks.{marking_start}
 use Rattle.encoding.proofs.integer_variables.marks_of.Goals as goal
 
-pub loop-k-init : goal.loop-k-init
-loop-k-init c = marking_start _
+pub loop-variable-init : goal.loop-variable-init
+loop-variable-init c = marking_start _
