@@ -1,16 +1,19 @@
 -- What follows for a certificate in tables: its counts, and its rows by their index.
 -- Assumes nothing.
-use Rattle.std.specs.Prelude.{◌≡◌, refl, Bool, true, false, ◌&&◌, ◌||◌, List, [], ◌∷◌, map, ℕ, zero, suc, ◌+◌, ◌-◌, ◌≤◌, ◌<◌, eqb, ltb, ℤ, length, get_or}
+use Rattle.std.specs.Prelude.{◌≡◌, refl, Bool, true, false, ◌&&◌, ◌||◌, Option, Some, None, List, [], ◌∷◌, map, ℕ, zero, suc, ◌+◌, ◌-◌, ◌≤◌, ◌<◌, eqb, ltb, ℤ, length, get_or}
 use Rattle.std.proofs.Common.{sym, ◌∙◌, ap, subst, not-suc-le-zero, le_of_suc-le-suc, arith, eqb-true, lt-ltb}
-use Rattle.tables.specs.Limits.{most_variables}
+use Rattle.tables.specs.Limits.{most_variables, most_rows, largest}
 use Rattle.tables.specs.declared.Header.{Header}
 use Rattle.grammar.specs.Tree.{Reason, Last, never, index, Derivation, Tree}
 use Rattle.grammar.specs.Certificate.{ReasonWord, Detail, as_reason, of_reason, reason_back}
+use Rattle.grammar.specs.Contents.{last_cell}
 use Rattle.grammar.specs.Ranges.{LastInRange, TreeInRange}
 use Rattle.grammar.specs.Header.{is_maximize}
 use Rattle.rules.specs.Tests.{All, some_of}
 use Rattle.rules.specs.Rows.{variables, given_row, derived_row, entry_at, no_row}
 use Rattle.rules.proofs.RowsLaws as rules
+use Rattle.encoding.specs.Places.{last_of}
+use Rattle.encoding.specs.Rows.{LastIs, last_says}
 use Rattle.encoding.specs.Encodes.{EncodesDerivation, no_derivation, derivation_at, Encodes}
 
 -- an element under another name
@@ -35,6 +38,16 @@ module _ {tree : Tree} (t : TreeInRange tree) where
 pub last_most : {n m : ℕ} (l : Last) → n ≤ m → LastInRange n l → LastInRange m l
 last_most never le h = tt
 last_most (index i) le h = omega arith
+
+-- the last index is that of a derivation whose cell it is
+pub last_known : {cells rows : List ℕ} {r : ℕ} {o : Option ℕ} {l : Last} → LastIs cells rows r o → last_of cells rows r ≡ last_cell l → LastInRange most_rows l → last_says o ≡ l
+last_known {o} {l} h e f = go o l (h.is ∙ e) h.small f
+  where
+    go : (o : Option ℕ) (l : Last) → last_cell (last_says o) ≡ last_cell l → LastInRange largest (last_says o) → LastInRange most_rows l → last_says o ≡ l
+    go None never e s f = refl
+    go None (index i) e s f = absurd (omega (arith, e, f))
+    go (Some i) never e s f = absurd (omega (arith, e, s))
+    go (Some i) (index j) e s f = ap index e
 
 -- ---- reasons by their words
 

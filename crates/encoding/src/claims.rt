@@ -22,15 +22,14 @@ impl<'a> Certificate<'a> {
     fn end_at(self, offset: usize, before: usize) -> Option<Fraction>
         ensures { (e : TreeEnd) → get_or self.entry.index.now (self.entry.header.claim + offset) 0 ≡ end_cell e → EncodesEnd self.entry.values.now (self.entry.header.ends + before) e → end_says result ≡ e }
     {
-        let header = self.header;
-        if tables::cell_from(self.index, header.claim, offset) == words::INFINITE {
-            None
-        } else {
-            Some(tables::value_from(self.values, header.ends, before))
+        if tables::cell_from(self.index, self.header.claim, offset) == words::INFINITE {
+            return None;
         }
+        Some(tables::value_from(self.values, self.header.ends, before))
     }
 
     // The upper or the lower end of the claim, if it is finite; `infeas` has none.
+    #[tactic(auto, using(crate::proofs::ClaimsLaws::claim_word))]
     pub fn end(self, upper: bool) -> Option<Fraction>
         ensures { (c : Claim) → EncodesClaim self.entry.index.now self.entry.values.now self.entry.header.claim self.entry.header.ends c → end_says result ≡ end_in upper c }
     {

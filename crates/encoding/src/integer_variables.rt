@@ -23,7 +23,7 @@ impl<'a> Certificate<'a> {
 pub fn marks_of(variables: &[u16]) -> [bool; 256]
     ensures { (v : ℕ) → get_or result v false ≡ ltb v most_variables && some_of (λ i. eqb i v) variables.now }
 {
-    let mut marks = [false; 256];
+    let mut marks = [false; limits::VARIABLES];
     for variable in variables {
         let v = *variable as usize;
         if v < limits::VARIABLES {

@@ -35,6 +35,7 @@ impl From<usize> for Word {
 
 impl Word {
     // How many cells follow the word, by the cell after it.
+    #[tactic(auto, unfolding(crate::specs::Places::after_word))]
     fn cells_after(self, count: usize) -> usize
         requires { count ≤ largest }
         ensures { (cell : ℕ) → IsWord cell self → result ≡ after_word cell count }
@@ -89,6 +90,7 @@ impl<'a> Certificate<'a> {
     }
 
     // The rows that row r's reason names, in order.
+    #[tactic(auto, unfolding(crate::specs::Places::named_by))]
     pub fn named(self, r: usize) -> &'a [u16]
         ensures { result.now ≡ named_by self.entry.index.now self.entry.rows.now r }
     {
