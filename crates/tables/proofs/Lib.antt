@@ -1,4 +1,2 @@
 -- Laws that several functions' proofs cite.
-pub mod Entries
-pub mod Clearing
 pub mod CellsLaws

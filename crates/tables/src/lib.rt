@@ -15,7 +15,7 @@ pub mod words;
 
 // The row table's cells of one name. Of a row: "byte place of the name, its length, index cell where its sense stands, number of
 // its right-hand value". Of a solution: "name place, length, cell of its count, number of values read before it".
-#[derive(Clone, Copy)]
+#[derive(Clone, Copy, Debug, PartialEq, Eq)]
 pub struct Entry {
     pub place: usize,
     pub size: usize,
@@ -24,7 +24,7 @@ pub struct Entry {
 }
 
 // Where a list of pairs stands: the index cell of its first index, the number of its first value, and how many pairs it has.
-#[derive(Clone, Copy)]
+#[derive(Clone, Copy, Debug, PartialEq, Eq)]
 pub struct Pairs {
     pub cell: usize,
     pub number: usize,
@@ -35,7 +35,7 @@ pub struct Pairs {
 // the objective is maximized, and where its terms stand; how many rows are given, and how many there are with the derived ones;
 // how many solutions there are; the claim's first index cell, and the number of the first value of its ends; the byte places of
 // the words `RTP` and `DER`.
-#[derive(Clone, Copy)]
+#[derive(Clone, Copy, Debug, PartialEq, Eq)]
 pub struct Header {
     pub variables: usize,
     pub integers: usize,
@@ -56,13 +56,9 @@ pub struct Header {
 pub fn has_cells(index: &[u16], values: &[i32], rows: &[u16]) -> bool
     ensures { result ≡ has_cells (length index.now) (length values.now) (length rows.now) }
 {
-    if index.len() < limits::INDEX_CELLS {
-        return false;
-    }
-    if values.len() < limits::VALUE_CELLS {
-        return false;
-    }
-    limits::ROW_CELLS <= rows.len()
+    index.len() >= limits::INDEX_CELLS
+        && values.len() >= limits::VALUE_CELLS
+        && rows.len() >= limits::ROW_CELLS
 }
 
 // The text is not too long.
@@ -78,10 +74,7 @@ pub fn is_short(text: &[u8]) -> bool
 pub fn cell_at(table: &[u16], i: usize) -> usize
     ensures { CellIs table.now i result }
 {
-    if i < table.len() {
-        return table[i] as usize;
-    }
-    0
+    table.get(i).copied().map_or(0, usize::from)
 }
 
 // The cell so many after another.
@@ -89,19 +82,18 @@ pub fn cell_from(table: &[u16], base: usize, offset: usize) -> usize
     ensures { CellIs table.now (base + offset) result }
 {
     let n = table.len();
-    if offset < n {
-        if base < n - offset {
-            return cell_at(table, base + offset);
-        }
+    if offset < n && base < n - offset {
+        cell_at(table, base + offset)
+    } else {
+        0
     }
-    0
 }
 
 // A numerator or a denominator.
 fn number_at(values: &[i32], i: usize) -> i32
     ensures { result ≡ get_or values.now i (pos 0) }
 {
-    if i < values.len() { values[i] } else { 0 }
+    values.get(i).copied().unwrap_or(0)
 }
 
 // The value with this number.
@@ -109,11 +101,13 @@ pub fn value_at(values: &[i32], number: usize) -> Fraction
     ensures { result ≡ fraction_at values.now number }
 {
     if number < values.len() {
-        let num = number_at(values, 2 * number);
-        let den = number_at(values, 2 * number + 1);
-        return Fraction { num: num, den: den };
+        Fraction {
+            num: number_at(values, 2 * number),
+            den: number_at(values, 2 * number + 1),
+        }
+    } else {
+        Fraction { num: 0, den: 0 }
     }
-    Fraction { num: 0, den: 0 }
 }
 
 // The value so many after another.
@@ -121,12 +115,11 @@ pub fn value_from(values: &[i32], base: usize, offset: usize) -> Fraction
     ensures { result ≡ fraction_at values.now (base + offset) }
 {
     let n = values.len();
-    if offset < n {
-        if base < n - offset {
-            return value_at(values, base + offset);
-        }
+    if offset < n && base < n - offset {
+        value_at(values, base + offset)
+    } else {
+        Fraction { num: 0, den: 0 }
     }
-    Fraction { num: 0, den: 0 }
 }
 
 // The row table's entry of row r.
@@ -134,19 +127,12 @@ pub fn entry_at(rows: &[u16], r: usize) -> Entry
     ensures { EntryIs rows.now r result }
 {
     let n = rows.len();
-    let mut at = n;
-    if r < n {
-        at = 4 * r;
-    }
-    let place = cell_from(rows, at, 0);
-    let size = cell_from(rows, at, 1);
-    let cell = cell_from(rows, at, 2);
-    let number = cell_from(rows, at, 3);
+    let at = if r < n { 4 * r } else { n };
     Entry {
-        place: place,
-        size: size,
-        cell: cell,
-        number: number,
+        place: cell_from(rows, at, 0),
+        size: cell_from(rows, at, 1),
+        cell: cell_from(rows, at, 2),
+        number: cell_from(rows, at, 3),
     }
 }
 
@@ -154,28 +140,28 @@ pub fn entry_at(rows: &[u16], r: usize) -> Entry
 pub fn solution_at(rows: &[u16], j: usize) -> Entry
     ensures { EntryIs rows.now (most_rows + j) result }
 {
-    let mut r = rows.len();
-    if j < r {
-        r = limits::ROWS + j;
-    }
-    entry_at(rows, r)
+    let n = rows.len();
+    entry_at(rows, if j < n { limits::ROWS + j } else { n })
 }
 
 // ---- lists, as parts of the tables
+
+// So many elements of a table, from this one on.
+fn part_of<T>(table: &[T], from: usize, count: usize) -> &[T]
+    ensures { result.now ≡ part from count table.now }
+{
+    let size = table.len();
+    match from.checked_add(count) {
+        Some(end) if end <= size => &table[from..end],
+        _ => &[],
+    }
+}
 
 // So many cells of the index table, from this one on.
 pub fn cells_of(index: &[u16], cell: usize, count: usize) -> &[u16]
     ensures { result.now ≡ part cell count index.now }
 {
-    let n = index.len();
-    if n < cell {
-        return &index[..0];
-    }
-    if n - cell < count {
-        return &index[..0];
-    }
-    let end = cell + count;
-    &index[cell..end]
+    part_of(index, cell, count)
 }
 
 // The indices of listed pairs.
@@ -190,50 +176,37 @@ pub fn values_of(values: &[i32], p: Pairs) -> &[i32]
     ensures { result.now ≡ part (2 * p.number) (2 * p.count) values.now }
 {
     let n = values.len();
-    let number = p.number;
-    let count = p.count;
-    if n < number {
-        return &values[..0];
+    if p.number <= n && p.count <= n {
+        part_of(values, 2 * p.number, 2 * p.count)
+    } else {
+        &[]
     }
-    if n - number < count {
-        return &values[..0];
-    }
-    let from = 2 * number;
-    let end = 2 * (number + count);
-    if n < end {
-        return &values[..0];
-    }
-    &values[from..end]
 }
 
 // How many pairs of an index and a value two parts have.
 pub fn pairs_in(indices: &[u16], values: &[i32]) -> usize
     ensures { result ≡ pairs_in indices.now values.now }
 {
-    let n = values.len() / 2;
-    if indices.len() < n { indices.len() } else { n }
+    indices.len().min(values.len() / 2)
 }
 
 // ---- storing
+
+// An element, where the table has it.
+fn store<T: Copy>(table: &mut [T], i: usize, x: T)
+    ensures { table.new ≡ set table.old i x }
+{
+    if i < table.len() {
+        table[i] = x;
+    }
+}
 
 // A cell of the index table or the row table. A number that no cell can hold is not stored.
 pub fn store_cell(table: &mut [u16], i: usize, x: usize)
     ensures { table.new ≡ with_cell i x table.old }
 {
-    if limits::LARGEST < x {
-        return;
-    }
-    if i < table.len() {
-        table[i] = x as u16;
-    }
-}
-
-// A numerator or a denominator.
-fn store_number(values: &mut [i32], i: usize, x: i32)
-    ensures { values.new ≡ set values.old i x }
-{
-    if i < values.len() {
-        values[i] = x;
+    if let Ok(x) = u16::try_from(x) {
+        store(table, i, x);
     }
 }
 
@@ -241,11 +214,9 @@ fn store_number(values: &mut [i32], i: usize, x: i32)
 pub fn store_value(values: &mut [i32], number: usize, f: Fraction)
     ensures { values.new ≡ with_value number f values.old }
 {
-    let num = f.num;
-    let den = f.den;
     if number < values.len() {
-        store_number(values, 2 * number, num);
-        store_number(values, 2 * number + 1, den);
+        store(values, 2 * number, f.num);
+        store(values, 2 * number + 1, f.den);
     }
 }
 
@@ -264,30 +235,13 @@ pub fn store_entry(rows: &mut [u16], r: usize, e: Entry)
 
 // ---- clearing
 
-// Every cell of the index table or the row table.
-fn clear_cells(table: &mut [u16])
-    ensures { table.new ≡ replicate (length table.old) 0 }
-{
-    for i in 0..table.len() {
-        table[i] = 0;
-    }
-}
-
-fn clear_values(values: &mut [i32])
-    ensures { values.new ≡ replicate (length values.old) (pos 0) }
-{
-    for i in 0..values.len() {
-        values[i] = 0;
-    }
-}
-
 // Every cell of the three tables.
 pub fn clear(index: &mut [u16], values: &mut [i32], rows: &mut [u16])
     ensures index { index.new ≡ replicate (length index.old) 0 }
     ensures values { values.new ≡ replicate (length values.old) (pos 0) }
     ensures rows { rows.new ≡ replicate (length rows.old) 0 }
 {
-    clear_cells(index);
-    clear_values(values);
-    clear_cells(rows);
+    index.fill(0);
+    values.fill(0);
+    rows.fill(0);
 }

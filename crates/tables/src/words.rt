@@ -1,4 +1,5 @@
 // The numbers that index cells take for words. specs/Words.antt has the same numbers for the statements.
+// Kept: these are document 01's numbers of the cells of lent tables; enums stand above them, in `senses` and in `encoding`.
 
 // "`min` 0, `max` 1".
 pub const MIN: usize = 0;

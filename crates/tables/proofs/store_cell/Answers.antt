@@ -1,14 +1,16 @@
--- `tables::store_cell` meets its contract: a store beyond the end, or of a number that no cell holds, changes nothing.
-use mathlib.Core.Path.{sym}
-use Rattle.tables.proofs.CellsLaws.{with_cell_lem, with_none, with_cell_beyond}
+-- `tables::store_cell` meets its contract: a number that no cell holds changes nothing.
+use mathlib.Core.Path.{◌≡◌, sym, ◌∙◌, ap}
+use Prim.Native.Nat.{ℕ}
+use lib.ListN.{set}
+use Rattle.tables.proofs.CellsLaws.{with_cell_lem, with_none}
 use native.Mathlib.Omega.{arith}
 use Rattle.tables.proofs.store_cell.Goals as goal
 
-pub returns-then-x-gt-LARGEST : goal.returns-then-x-gt-LARGEST
-returns-then-x-gt-LARGEST c = sym (with_none _ _ _ c.if-x-gt-LARGEST.true)
+pub returns-in-Ok : goal.returns-in-Ok
+returns-in-Ok c =
+    let a = c.args in
+    let same : c.in-Ok.x ≡ a.x = omega (arith, c.in-Ok.ensures) in
+    c.store.ensures ∙ ap (λ (x : ℕ). set a.table.now a.i x) same ∙ sym (with_cell_lem a.table.now a.i a.x (omega (arith, c.in-Ok.ensures)))
 
-pub returns-then-i-table : goal.returns-then-i-table
-returns-then-i-table c = sym (with_cell_lem _ _ _ (omega arith))
-
-pub returns-else-i-table : goal.returns-else-i-table
-returns-else-i-table c = sym (with_cell_beyond _ _ _ (omega arith))
+pub returns-in_default : goal.returns-in_default
+returns-in_default c = sym (with_none _ _ _ (omega (arith, c.in_default.ensures)))

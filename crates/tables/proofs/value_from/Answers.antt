@@ -3,8 +3,5 @@ use Rattle.tables.proofs.CellsLaws.{value_beyond}
 use native.Mathlib.Omega.{arith}
 use Rattle.tables.proofs.value_from.Goals as goal
 
-pub returns-else-base-n : goal.returns-else-base-n
-returns-else-base-n c = value_beyond _ _ (omega arith)
-
 pub returns-else-offset-n : goal.returns-else-offset-n
 returns-else-offset-n c = value_beyond _ _ (omega arith)
