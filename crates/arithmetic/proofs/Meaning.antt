@@ -16,8 +16,10 @@ use Rattle.arithmetic.specs.Outcome.{Outcome, gives, refuses}
 use Rattle.arithmetic.specs.Quotient.{Quotient, ◌≈◌, ◌<Q◌, ◌+Q◌, ◌*Q◌, lowest, floor_q, ceiling_q}
 use Rattle.arithmetic.specs.QuotientLaws.{Positive}
 use Rattle.arithmetic.proofs.QuotientLaws.{≈_sym, ≈_trans, +Q_cong_right, ≤Q_of_≈, ≤Q_of_<, <Q_clash, lowest_positive, lowest_coprime, lowest_equal, lowest-terms_unique, lowest_is, floor_below, floor_greatest, ceiling_above, ceiling_least}
-use Rattle.arithmetic.specs.Fraction.{limit, IsFraction, is_fraction, exact, within, on_fractions, reduced_of, product_of, sum_of, after, add_product_of, Order, less, equal, greater, order, order_q, compare_of, floor_of, ceiling_of}
+use Rattle.arithmetic.specs.Fraction.{limit, IsFraction, is_fraction, exact, within, on_fractions, reduced_of, product_of, sum_of, after, add_product_of, order, order_q, compare_of, floor_of, ceiling_of}
 use Rattle.arithmetic.specs.declared.Fraction.{Fraction}
+use Rattle.std.specs.declared.cmp.Ordering.{Ordering}
+use Rattle.std.specs.declared.cmp.Ordering.TheVariants.{Less, Equal, Greater}
 use Rattle.arithmetic.specs.Meaning.{TooWide, Means, MeansInTwo, Says, Answers, IsFloor, IsCeiling}
 
 -- ---- the test and the words
@@ -286,22 +288,22 @@ order-says x y = go (lt_z p q) refl (lt_z q p) refl
     q : ℤ
     q = y.top *ℤ pos x.bottom
 
-    go : (t : Bool) → lt_z p q ≡ t → (u : Bool) → lt_z q p ≡ u → Says x y (cond t less (cond u greater equal))
+    go : (t : Bool) → lt_z p q ≡ t → (u : Bool) → lt_z q p ≡ u → Says x y (cond t Less (cond u Greater Equal))
     go true e u f = record { lt = subst T (sym e) tt }
     go false e true f = record { lt = subst T (sym f) tt }
     go false e false f = ≤ℤ_antisym p q (lt_z_no (subst (λ (b : Bool). T (not b)) (sym f) tt)) (lt_z_no (subst (λ (b : Bool). T (not b)) (sym e) tt))
 
 -- only one of the three holds
-pub order_only : (x y : Quotient) (o s : Order) → Says x y o → Says x y s → o ≡ s
-order_only x y less less h k = refl
-order_only x y less equal h k = absurd (<Q_clash x y h (≤Q_of_≈ y x (≈_sym x y k)))
-order_only x y less greater h k = absurd (<Q_clash x y h (≤Q_of_< y x k))
-order_only x y equal less h k = absurd (<Q_clash x y k (≤Q_of_≈ y x (≈_sym x y h)))
-order_only x y equal equal h k = refl
-order_only x y equal greater h k = absurd (<Q_clash y x k (≤Q_of_≈ x y h))
-order_only x y greater less h k = absurd (<Q_clash y x h (≤Q_of_< x y k))
-order_only x y greater equal h k = absurd (<Q_clash y x h (≤Q_of_≈ x y k))
-order_only x y greater greater h k = refl
+pub order_only : (x y : Quotient) (o s : Ordering) → Says x y o → Says x y s → o ≡ s
+order_only x y Less Less h k = refl
+order_only x y Less Equal h k = absurd (<Q_clash x y h (≤Q_of_≈ y x (≈_sym x y k)))
+order_only x y Less Greater h k = absurd (<Q_clash x y h (≤Q_of_< y x k))
+order_only x y Equal Less h k = absurd (<Q_clash x y k (≤Q_of_≈ y x (≈_sym x y h)))
+order_only x y Equal Equal h k = refl
+order_only x y Equal Greater h k = absurd (<Q_clash y x k (≤Q_of_≈ x y h))
+order_only x y Greater Less h k = absurd (<Q_clash y x h (≤Q_of_< x y k))
+order_only x y Greater Equal h k = absurd (<Q_clash y x h (≤Q_of_≈ x y k))
+order_only x y Greater Greater h k = refl
 
 -- of a result that is worked out, and is the only one
 answers : {A Operands : Type 0} {Result : A → Type 0} (t : Bool) (result : A) → (t ≡ true) ↔ Operands → (Operands → Result result)

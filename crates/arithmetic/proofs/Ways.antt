@@ -1,6 +1,6 @@
 -- The ways out of the functions that test, over plain values.
 -- Assumes nothing.
-use mathlib.Core.Path.{◌≡◌, refl, sym, ◌∙◌, ap, ap₂, subst}
+use mathlib.Core.Path.{◌≡◌, sym, ◌∙◌, ap, ap₂, subst}
 use mathlib.Core.Bool.{Bool, true, false, not}
 use Prim.Native.Nat.{ℕ, ◌≤◌, ◌<◌}
 use native.Mathlib.Omega.{arith}
@@ -15,13 +15,11 @@ use Rattle.integers.proofs.Casts.{back_of}
 use Rattle.arithmetic.specs.Outcome.{Outcome, gives, refuses}
 use Rattle.arithmetic.specs.Quotient.{Quotient, lowest}
 use Rattle.arithmetic.specs.QuotientLaws.{Positive}
-use Rattle.arithmetic.specs.Fraction.{limit, IsFraction, is_fraction, ratio_of, within, reduced_of, on_fractions, after, arithmetic_says, order, less, equal, greater}
+use Rattle.arithmetic.specs.Fraction.{limit, IsFraction, is_fraction, ratio_of, within, reduced_of, on_fractions}
 use Rattle.arithmetic.proofs.Meaning.{truth, and-true, true_and}
 use Rattle.arithmetic.specs.Parts.{is_shaped, over}
 use Rattle.arithmetic.specs.declared.Fraction.{Fraction}
 use Rattle.arithmetic.specs.declared.Ratio.{Ratio}
-use Rattle.arithmetic.specs.declared.Arithmetic.{Arithmetic}
-use Rattle.arithmetic.specs.declared.Arithmetic.TheVariants.{Value, NotAFraction, TooWide}
 
 -- ---- within
 
@@ -70,12 +68,6 @@ reduced_exact q x e h =
     let positive : 0 < q.bottom = subst (λ (y : Quotient). Positive y) (sym e) h in
     on_fractions_lem _ (not (eqb q.bottom 0)) (ap not (ne_eqb q.bottom 0 (λ z. omega arith))) ∙ ap (λ (y : Quotient). within (lowest y)) e
 
--- what is refused stays refused
-pub stays : (a : Arithmetic) (next : Fraction → Outcome Fraction) → ((f : Fraction) → a ≡ Value f → ⊥) → arithmetic_says a ≡ after (arithmetic_says a) next
-stays (Value f) next h = absurd (h f refl)
-stays NotAFraction next h = refl
-stays TooWide next h = refl
-
 -- ---- a struct's fields, as the machine reads them
 
 abbrev pub read : ℤ → ℤ
@@ -95,21 +87,6 @@ read_wide z = to_z w64 (of_z w64 z)
 -- a numerator times a denominator
 pub cross_read : (a b : Fraction) (d : ℕ) (r : ℤ) → Told a → Told b → d ≡ nat_abs (read b.den) → r ≡ read a.num *ℤ pos d → r ≡ a.num *ℤ pos (nat_abs b.den)
 cross_read a b d r s t e f = f ∙ (rw (back_of a.num s.0, e, back_of b.den t.1))
-
--- ---- ordered
-
-module _ (x y : ℤ) where
-  pub is_less : lt_z x y ≡ true → order x y ≡ less
-  unfolding order
-  is_less l = rw l
-
-  pub is_greater : lt_z x y ≡ false → lt_z y x ≡ true → order x y ≡ greater
-  unfolding order
-  is_greater l g = rw (l, g)
-
-  pub is_equal_lem : lt_z x y ≡ false → lt_z y x ≡ false → order x y ≡ equal
-  unfolding order
-  is_equal_lem l g = rw (l, g)
 
 -- ---- floor and ceiling: what was rounded of the fields is what the operation on the fraction gives
 

@@ -15,7 +15,10 @@ use Rattle.arithmetic.specs.Laws.{zero_f}
 use Rattle.arithmetic.proofs.Laws.{zero_is, sum_zero, product-zero, product_is}
 use Rattle.arithmetic.specs.Parts.{over}
 use Rattle.arithmetic.specs.declared.Fraction.{Fraction}
-use Rattle.arithmetic.proofs.Ways.{on_fractions_lem}
+use Rattle.arithmetic.proofs.Ways.{on_fractions_lem, read_wide}
+use lib.Signed.{mag}
+use Rattle.std.proofs.Common.{arith}
+use Rattle.std.proofs.lemmas.Int.{ints}
 use Rattle.arithmetic.proofs.Lowest.{whole-lowest}
 
 -- a fraction that is a whole number
@@ -43,6 +46,10 @@ module _ (z : ℤ) where
   pub whole_wide : limit < nat_abs z → within (over z 1) ≡ refuses 12
   unfolding within
   whole_wide h = rw (lt-leb (nat_abs z) limit h)
+
+-- the sum with another, in 64 bits
+pub sum_read : (s z : ℤ) → mag s < 2147483648 → nat_abs z ≤ limit → read_wide (s +ℤ z) ≡ s +ℤ z
+sum_read s z h k = omega (arith, ints)
 
 abbrev pub whole_sum : ℤ → ℤ → ℤ → Outcome Fraction
 whole_sum s n m = after (within (over (n *ℤ m) 1)) (λ p. within (over (s +ℤ p.num) 1))

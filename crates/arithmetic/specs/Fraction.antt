@@ -1,7 +1,7 @@
 -- Fractions within the limit, and the operations on them (document 01, "Reasons of refusal" and "Solutions, then
 -- derivations"): what each gives or refuses, for every pair of numbers whatever.
 -- Assumes nothing.
-use Rattle.std.specs.Prelude.{◌≡◌, Bool, cond, not, ◌&&◌, ℕ, ◌≤◌, leb, eqb, ℤ, pos, nat_abs, ◌*ℤ◌, ◌<ℤ◌}
+use Rattle.std.specs.Prelude.{◌≡◌, Bool, cond, not, ◌&&◌, ℕ, ◌≤◌, leb, eqb, ℤ, pos, nat_abs, ◌*ℤ◌, ◌<ℤ◌, Result, Ok, Err}
 use Rattle.std.specs.Int.{◌∣◌}
 use Rattle.std.specs.Int.Signed.{lt_z}
 use Rattle.integers.specs.Gcd.{gcd}
@@ -10,12 +10,11 @@ use Rattle.arithmetic.specs.Outcome.{Outcome, gives, refuses}
 use Rattle.arithmetic.specs.Quotient.{Quotient, ◌+Q◌, ◌*Q◌, lowest, floor_q, ceiling_q}
 use Rattle.arithmetic.specs.declared.Fraction.{Fraction}
 use Rattle.arithmetic.specs.declared.Ratio.{Ratio}
-use Rattle.arithmetic.specs.declared.Arithmetic.{Arithmetic}
-use Rattle.arithmetic.specs.declared.Arithmetic.TheVariants as arithmetic
-use Rattle.arithmetic.specs.declared.Comparison.{Comparison}
-use Rattle.arithmetic.specs.declared.Comparison.TheVariants as comparison
-use Rattle.arithmetic.specs.declared.Rounding.{Rounding}
-use Rattle.arithmetic.specs.declared.Rounding.TheVariants as rounding
+use Rattle.arithmetic.specs.declared.ArithmeticError.{ArithmeticError}
+use Rattle.arithmetic.specs.declared.ArithmeticError.TheVariants as error
+use Rattle.arithmetic.specs.declared.NotAFraction.{NotAFraction}
+use Rattle.std.specs.declared.cmp.Ordering.{Ordering}
+use Rattle.std.specs.declared.cmp.Ordering.TheVariants.{Less, Equal, Greater}
 
 -- "numerator magnitude or denominator above 2,147,483,647 is refusal 12"
 abbrev pub limit : ℕ
@@ -77,18 +76,13 @@ abbrev pub add_product_of : Fraction → Fraction → Fraction → Outcome Fract
 add_product_of sum a b = on_fractions (is_fraction sum && (is_fraction a && is_fraction b)) (after (product_of a b) (sum_of sum))
 
 -- "Comparisons are exact, never 12"
-pub data Order : Type 0 where
-  less : Order
-  equal : Order
-  greater : Order
+unfoldable pub order : ℤ → ℤ → Ordering
+order x y = cond (lt_z x y) Less (cond (lt_z y x) Greater Equal)
 
-unfoldable pub order : ℤ → ℤ → Order
-order x y = cond (lt_z x y) less (cond (lt_z y x) greater equal)
-
-abbrev pub order_q : Quotient → Quotient → Order
+abbrev pub order_q : Quotient → Quotient → Ordering
 order_q x y = order (x.top *ℤ pos y.bottom) (y.top *ℤ pos x.bottom)
 
-abbrev pub compare_of : Fraction → Fraction → Outcome Order
+abbrev pub compare_of : Fraction → Fraction → Outcome Ordering
 compare_of a b = on_fractions (is_fraction a && is_fraction b) (gives (order_q (exact a) (exact b)))
 
 abbrev pub floor_of : Fraction → Outcome ℤ
@@ -97,19 +91,21 @@ floor_of a = on_fractions (is_fraction a) (gives (floor_q (exact a)))
 abbrev pub ceiling_of : Fraction → Outcome ℤ
 ceiling_of a = on_fractions (is_fraction a) (gives (ceiling_q (exact a)))
 
--- ---- 01's number and values for each case of the answers' enums
+-- ---- 01's number of each refusal, and what an answer says by it
 
-abbrev pub arithmetic_says : Arithmetic → Outcome Fraction
-arithmetic_says (arithmetic.Value f) = gives f
-arithmetic_says arithmetic.NotAFraction = refuses 4
-arithmetic_says arithmetic.TooWide = refuses 12
+abbrev pub number : ArithmeticError → ℕ
+number error.NotAFraction = 4
+number error.TooWide = 12
 
-abbrev pub comparison_says : Comparison → Outcome Order
-comparison_says comparison.Less = gives less
-comparison_says comparison.Equal = gives equal
-comparison_says comparison.Greater = gives greater
-comparison_says comparison.NotAFraction = refuses 4
+abbrev pub says : {A E : Type 0} → (E → ℕ) → Result A E → Outcome A
+says refusal (Ok a) = gives a
+says refusal (Err e) = refuses (refusal e)
 
-abbrev pub rounding_says : Rounding → Outcome ℤ
-rounding_says (rounding.Whole z) = gives z
-rounding_says rounding.NotAFraction = refuses 4
+abbrev pub arithmetic_says : Result Fraction ArithmeticError → Outcome Fraction
+arithmetic_says = says number
+
+abbrev pub comparison_says : Result Ordering NotAFraction → Outcome Ordering
+comparison_says = says (λ e. 4)
+
+abbrev pub rounding_says : Result ℤ NotAFraction → Outcome ℤ
+rounding_says = says (λ e. 4)

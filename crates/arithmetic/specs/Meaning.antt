@@ -6,8 +6,10 @@ use Rattle.std.proofs.Math.Path.{◌≡◌}
 use Rattle.std.specs.Prelude.{◌↔◌, ◌⊎◌, ℤ, ◌≤ℤ◌}
 use Rattle.arithmetic.specs.Outcome.{Outcome, gives, refuses}
 use Rattle.arithmetic.specs.Quotient.{Quotient, ◌≈◌, ◌≤Q◌, ◌<Q◌, whole_q}
-use Rattle.arithmetic.specs.Fraction.{IsFraction, exact, Order, less, equal, greater}
+use Rattle.arithmetic.specs.Fraction.{IsFraction, exact}
 use Rattle.arithmetic.specs.declared.Fraction.{Fraction}
+use Rattle.std.specs.declared.cmp.Ordering.{Ordering}
+use Rattle.std.specs.declared.cmp.Ordering.TheVariants.{Less, Equal, Greater}
 
 -- some fraction equals x; and x is too wide where none does
 abbrev pub Fits : Quotient → Type 0
@@ -34,10 +36,10 @@ pub record MeansInTwo (Operands : Type 0) (p x : Quotient) (o : Outcome Fraction
 -- ---- comparison: the order of the rational numbers, which `QuotientLaws` proves total and transitive
 
 -- what an order says of two quotients
-abbrev pub Says : Quotient → Quotient → Order → Type 0
-Says x y less = x <Q y
-Says x y equal = x ≈ y
-Says x y greater = y <Q x
+abbrev pub Says : Quotient → Quotient → Ordering → Type 0
+Says x y Less = x <Q y
+Says x y Equal = x ≈ y
+Says x y Greater = y <Q x
 
 -- an operation that is never too wide: 4 exactly where an operand is no fraction, else its result, of which `Result` says what it is
 pub record Answers {A : Type 0} (Operands : Type 0) (Result : A → Type 0) (o : Outcome A) : Type 0 where

@@ -7,135 +7,119 @@ ghost use Rattle.std.specs.Prelude.{◌≡◌, ◌*◌, ◌≤◌, ◌<◌, pos,
 ghost use Rattle.std.specs.Int.Signed.{mag};
 ghost use Rattle.integers.specs.Signs.{with_sign};
 ghost use Rattle.arithmetic.specs.Quotient.{◌+Q◌, ◌*Q◌, floor_z, ceiling_z};
-ghost use Rattle.arithmetic.specs.Fraction.{limit, IsFraction, exact, ratio_of, within as within_of, reduced_of, product_of, sum_of, after, add_product_of, compare_of, order, floor_of, ceiling_of, arithmetic_says, comparison_says, rounding_says};
+ghost use Rattle.arithmetic.specs.Fraction.{limit, IsFraction, exact, ratio_of, within as within_of, reduced_of, product_of, sum_of, after, add_product_of, compare_of, floor_of, ceiling_of, number, arithmetic_says, rounding_says};
 ghost use Rattle.arithmetic.specs.Outcome.{gives};
 ghost use Rattle.arithmetic.specs.Parts.{is_shaped, over};
+ghost use Rattle.arithmetic.specs.declared.ArithmeticError.TheVariants as error;
+
+use std::cmp::Ordering;
+use std::fmt;
 
 // The largest magnitude of a numerator or a denominator.
 const LIMIT: u64 = 2147483647;
 
 // A numerator over a denominator. Any two numbers can stand here; `IsFraction` says which pairs are values.
-#[derive(Clone, Copy)]
+#[derive(Clone, Copy, Debug, PartialEq, Eq)]
 pub struct Fraction {
     pub num: i32,
     pub den: i32,
 }
 
-// What a product or a sum answers: 01's refusals 4 and 12 are NotAFraction and TooWide.
-#[derive(Clone, Copy)]
-pub enum Arithmetic {
-    Value(Fraction),
+impl fmt::Display for Fraction {
+    fn fmt<W: fmt::Write>(&self, f: &mut fmt::Formatter<W>) -> fmt::Result {
+        write!(f, "{}/{}", self.num, self.den)
+    }
+}
+
+// An operand is no fraction.
+#[derive(Clone, Copy, Debug, PartialEq, Eq)]
+pub struct NotAFraction;
+
+// Why a product or a sum is refused.
+#[derive(Clone, Copy, Debug, PartialEq, Eq)]
+pub enum ArithmeticError {
     NotAFraction,
     TooWide,
 }
 
-// How two values compare.
-#[derive(Clone, Copy)]
-pub enum Comparison {
-    Less,
-    Equal,
-    Greater,
-    NotAFraction,
+impl From<NotAFraction> for ArithmeticError {
+    ghost from_gives = { λ _ e. e ≡ error.NotAFraction };
+
+    fn from(_e: NotAFraction) -> ArithmeticError {
+        ArithmeticError::NotAFraction
+    }
 }
 
-// What floor and ceiling answer.
-#[derive(Clone, Copy)]
-pub enum Rounding {
-    Whole(i32),
-    NotAFraction,
+// 01's numbers of the refusals.
+impl From<ArithmeticError> for u8 {
+    ghost from_gives = { λ e n. n ≡ number e };
+
+    fn from(e: ArithmeticError) -> u8 {
+        match e {
+            ArithmeticError::NotAFraction => 4,
+            ArithmeticError::TooWide => 12,
+        }
+    }
 }
 
 // An exact result: a sign, true for negative, and a numerator over a denominator, in lowest terms or not.
-#[derive(Clone, Copy)]
+#[derive(Clone, Copy, Debug, PartialEq, Eq)]
 pub struct Ratio {
     pub negative: bool,
     pub top: u64,
     pub bottom: u64,
 }
 
-// ---- magnitudes
-
-fn magnitude_wide(x: i64) -> u64
-    ensures { result ≡ nat_abs x }
-{
-    if x < 0 {
-        ((0 - (x + 1)) as u64) + 1
-    } else {
-        x as u64
-    }
-}
-
-pub fn magnitude(x: i32) -> u32
-    ensures { result ≡ nat_abs x }
-{
-    magnitude_wide(x as i64) as u32
-}
+// ---- lowest terms within the limit
 
 // A sign, true for negative, and a magnitude as one number.
-fn signed(neg: bool, m: u64) -> i32
+fn signed(negative: bool, m: u64) -> i32
     requires { m ≤ limit }
-    ensures { result ≡ with_sign neg m }
+    ensures { result ≡ with_sign negative m }
 {
     let p = m as i32;
-    if neg { 0 - p } else { p }
+    if negative { -p } else { p }
 }
-
-// Whole products of numbers of 32 bits.
-fn wide(a: u32, b: u32) -> u64
-    ensures { result ≡ a * b }
-{
-    (a as u64) * (b as u64)
-}
-
-fn wide_signed(n: i32, d: u32) -> i64
-    ensures { result ≡ n *ℤ pos d }
-{
-    (n as i64) * (d as i64)
-}
-
-// ---- lowest terms within the limit
 
 // Whether a pair is a fraction if it is in lowest terms.
 pub fn is_shaped(f: Fraction) -> bool
     ensures { result ≡ is_shaped f }
 {
-    let n = f.num;
-    let d = f.den;
-    if d <= 0 {
-        false
-    } else {
-        (magnitude(n) as u64) <= LIMIT
-    }
+    f.den > 0 && u64::from(f.num.unsigned_abs()) <= LIMIT
 }
 
-// A quotient that is in lowest terms already, if it is within the limit.
-pub fn within(negative: bool, n: u64, d: u64) -> Arithmetic
-    ensures { arithmetic_says result ≡ within_of (over (with_sign negative n) d) }
-{
-    if n > LIMIT {
-        return Arithmetic::TooWide;
+impl Ratio {
+    // A quotient that is in lowest terms already, if it is within the limit.
+    pub fn within(self) -> Result<Fraction, ArithmeticError>
+        ensures { arithmetic_says result ≡ within_of (ratio_of self) }
+    {
+        if self.top > LIMIT || self.bottom > LIMIT {
+            return Err(ArithmeticError::TooWide);
+        }
+        Ok(Fraction {
+            num: signed(self.negative, self.top),
+            den: self.bottom as i32,
+        })
     }
-    if d > LIMIT {
-        return Arithmetic::TooWide;
-    }
-    Arithmetic::Value(Fraction {
-        num: signed(negative, n),
-        den: signed(false, d),
-    })
-}
 
-// n / d, negated if asked, brought to lowest terms. No fraction has the denominator 0; a whole number is in lowest terms.
-pub fn reduced(negative: bool, n: u64, d: u64) -> Arithmetic
-    ensures { arithmetic_says result ≡ reduced_of negative n d }
-{
-    if d == 0 {
-        return Arithmetic::NotAFraction;
+    // The quotient brought to lowest terms. No fraction has the denominator 0; a whole number is in lowest terms.
+    pub fn reduced(self) -> Result<Fraction, ArithmeticError>
+        ensures { arithmetic_says result ≡ reduced_of self.negative self.top self.bottom }
+    {
+        if self.bottom == 0 {
+            return Err(ArithmeticError::NotAFraction);
+        }
+        if self.bottom == 1 {
+            return self.within();
+        }
+        let g = divisors::gcd(self.top, self.bottom);
+        Ratio {
+            top: self.top / g,
+            bottom: self.bottom / g,
+            ..self
+        }
+        .within()
     }
-    if d == 1 {
-        return within(negative, n, 1);
-    }
-    let g = divisors::gcd(n, d);
-    within(negative, n / g, d / g)
 }
 
 // ---- product and sum
@@ -144,26 +128,30 @@ pub fn reduced(negative: bool, n: u64, d: u64) -> Arithmetic
 fn denominators(a: Fraction, b: Fraction) -> u64
     ensures { result ≡ nat_abs a.den * nat_abs b.den }
 {
-    wide(magnitude(a.den), magnitude(b.den))
+    u64::from(a.den.unsigned_abs()) * u64::from(b.den.unsigned_abs())
+}
+
+fn times(n: i32, m: i64) -> i64
+    requires { nat_abs m ≤ 2147483648 }
+    ensures { result ≡ n *ℤ m }
+{
+    i64::from(n) * m
 }
 
 // The numerator of a times the denominator of b.
 fn cross(a: Fraction, b: Fraction) -> i64
     ensures { (result ≡ a.num *ℤ pos (nat_abs b.den)) × (mag result < 4611686018427387904) }
 {
-    wide_signed(a.num, magnitude(b.den))
+    times(a.num, i64::from(b.den.unsigned_abs()))
 }
 
 // The exact product.
 pub fn multiplied(a: Fraction, b: Fraction) -> Ratio
     ensures { ratio_of result ≡ exact a *Q exact b }
 {
-    let n = a.num;
-    let m = b.num;
-    let top = wide(magnitude(n), magnitude(m));
     Ratio {
-        negative: (n < 0) != (m < 0),
-        top: top,
+        negative: (a.num < 0) != (b.num < 0),
+        top: u64::from(a.num.unsigned_abs()) * u64::from(b.num.unsigned_abs()),
         bottom: denominators(a, b),
     }
 }
@@ -175,107 +163,67 @@ pub fn added(a: Fraction, b: Fraction) -> Ratio
     let t = cross(a, b) + cross(b, a);
     Ratio {
         negative: t < 0,
-        top: magnitude_wide(t),
+        top: t.unsigned_abs(),
         bottom: denominators(a, b),
     }
 }
 
-pub fn product(a: Fraction, b: Fraction) -> Arithmetic
+pub fn product(a: Fraction, b: Fraction) -> Result<Fraction, ArithmeticError>
     ensures { IsFraction a → IsFraction b → arithmetic_says result ≡ product_of a b }
 {
-    let q = multiplied(a, b);
-    reduced(q.negative, q.top, q.bottom)
+    multiplied(a, b).reduced()
 }
 
 // A sum with a whole number is in lowest terms.
-pub fn sum(a: Fraction, b: Fraction) -> Arithmetic
+pub fn sum(a: Fraction, b: Fraction) -> Result<Fraction, ArithmeticError>
     ensures { IsFraction a → IsFraction b → arithmetic_says result ≡ sum_of a b }
 {
     let q = added(a, b);
-    if a.den == 1 {
-        return within(q.negative, q.top, q.bottom);
+    if a.den == 1 || b.den == 1 {
+        q.within()
+    } else {
+        q.reduced()
     }
-    if b.den == 1 {
-        return within(q.negative, q.top, q.bottom);
-    }
-    reduced(q.negative, q.top, q.bottom)
 }
 
 // ---- a sum and a product more
 
-// n * m.
-fn whole_product(n: i32, m: i32) -> i64
-    ensures { result ≡ n *ℤ m }
-{
-    (n as i64) * (m as i64)
-}
-
-// s + w.
-fn whole_sum(s: i32, w: i64) -> i64
-    requires { nat_abs w ≤ limit }
-    ensures { result ≡ s +ℤ w }
-{
-    (s as i64) + w
-}
-
 // s + n * m, whole numbers.
-fn add_product_whole(s: i32, n: i32, m: i32) -> Arithmetic
+fn add_product_whole(s: i32, n: i32, m: i32) -> Result<Fraction, ArithmeticError>
     ensures { arithmetic_says result ≡ after (within_of (over (n *ℤ m) 1)) (λ p. within_of (over (s +ℤ p.num) 1)) }
 {
-    let w = whole_product(n, m);
-    if magnitude_wide(w) > LIMIT {
-        return Arithmetic::TooWide;
+    let w = times(n, i64::from(m));
+    if w.unsigned_abs() > LIMIT {
+        return Err(ArithmeticError::TooWide);
     }
-    let t = whole_sum(s, w);
-    within(t < 0, magnitude_wide(t), 1)
-}
-
-// s + a * b, of any fractions.
-fn add_product_any(s: Fraction, a: Fraction, b: Fraction) -> Arithmetic
-    ensures { IsFraction s → IsFraction a → IsFraction b → arithmetic_says result ≡ add_product_of s a b }
-{
-    let p = product(a, b);
-    let Arithmetic::Value(v) = p else {
-        return p;
-    };
-    sum(s, v)
+    let t = i64::from(s) + w;
+    Ratio {
+        negative: t < 0,
+        top: t.unsigned_abs(),
+        bottom: 1,
+    }
+    .within()
 }
 
 // A sum and a product more: a * b, then s + a * b, each brought to lowest terms within the limit.
-pub fn add_product(s: Fraction, a: Fraction, b: Fraction) -> Arithmetic
+pub fn add_product(s: Fraction, a: Fraction, b: Fraction) -> Result<Fraction, ArithmeticError>
     ensures { IsFraction s → IsFraction a → IsFraction b → arithmetic_says result ≡ add_product_of s a b }
 {
     if b.num == 0 {
-        return Arithmetic::Value(s);
+        return Ok(s);
     }
-    if s.den == 1 {
-        if a.den == 1 {
-            if b.den == 1 {
-                return add_product_whole(s.num, a.num, b.num);
-            }
-        }
+    if s.den == 1 && a.den == 1 && b.den == 1 {
+        return add_product_whole(s.num, a.num, b.num);
     }
-    add_product_any(s, a, b)
+    sum(s, product(a, b)?)
 }
 
 // ---- comparison
 
-fn ordered(x: i64, y: i64) -> Comparison
-    ensures { comparison_says result ≡ gives (order x y) }
+pub fn compare(a: Fraction, b: Fraction) -> Ordering
+    ensures { IsFraction a → IsFraction b → gives result ≡ compare_of a b }
 {
-    if x < y {
-        Comparison::Less
-    } else if y < x {
-        Comparison::Greater
-    } else {
-        Comparison::Equal
-    }
-}
-
-pub fn compare(a: Fraction, b: Fraction) -> Comparison
-    ensures { IsFraction a → IsFraction b → comparison_says result ≡ compare_of a b }
-{
-    ordered(cross(a, b), cross(b, a))
+    cross(a, b).cmp(&cross(b, a))
 }
 
 // ---- rounding
@@ -294,25 +242,25 @@ fn ceiling_of(n: i32, d: i32) -> i32
     requires { (pos 0 <ℤ d) × (nat_abs n ≤ limit) }
     ensures { result ≡ ceiling_z n (nat_abs d) }
 {
-    0 - floor_of(0 - n, d)
+    -floor_of(-n, d)
 }
 
-pub fn floor(a: Fraction) -> Rounding
+pub fn floor(a: Fraction) -> Result<i32, NotAFraction>
     ensures { IsFraction a → rounding_says result ≡ floor_of a }
 {
     if is_shaped(a) {
-        Rounding::Whole(floor_of(a.num, a.den))
+        Ok(floor_of(a.num, a.den))
     } else {
-        Rounding::NotAFraction
+        Err(NotAFraction)
     }
 }
 
-pub fn ceiling(a: Fraction) -> Rounding
+pub fn ceiling(a: Fraction) -> Result<i32, NotAFraction>
     ensures { IsFraction a → rounding_says result ≡ ceiling_of a }
 {
     if is_shaped(a) {
-        Rounding::Whole(ceiling_of(a.num, a.den))
+        Ok(ceiling_of(a.num, a.den))
     } else {
-        Rounding::NotAFraction
+        Err(NotAFraction)
     }
 }

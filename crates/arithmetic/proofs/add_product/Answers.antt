@@ -1,24 +1,28 @@
 -- `arithmetic::add_product` meets its contract: a product with 0, whole numbers, and then any.
+use Rattle.std.proofs.Common.{rules, Err}
 use mathlib.Core.Path.{◌≡◌, sym, ◌∙◌, ap}
 use lib.IntN.{nat_abs}
 use Rattle.integers.proofs.Casts.{back_of}
-use Rattle.arithmetic.specs.Fraction.{IsFraction}
+use Rattle.arithmetic.specs.Outcome.{Outcome}
+use Rattle.arithmetic.specs.Fraction.{IsFraction, sum_of, after, arithmetic_says}
 use Rattle.arithmetic.specs.declared.Fraction.{Fraction}
+use Rattle.arithmetic.proofs.Laws.{product_is}
+use Rattle.arithmetic.proofs.Meaning.{product_then_sum}
 use Rattle.arithmetic.proofs.Ways.{Told, zero-read, one-read}
 use Rattle.arithmetic.proofs.Whole.{IsWhole, whole-add, zero_added}
 use Rattle.arithmetic.proofs.add_product.Goals as goal
 
 pub returns-then-b-eq0 : goal.returns-then-b-eq0
 returns-then-b-eq0 c =
-    let told_b : Told c.args.b = let g = c.well_formed.1.1.0.1.1 in (g.0.1, g.1.0.1) in
+    let told_b : Told c.args.b = search rules in
     λ u v w.
     sym (zero_added c.args.s c.args.a c.args.b u v w (zero-read c.args.b.num told_b.0 c.if-b-eq0.true))
 
 pub returns-then-b-eq1 : goal.returns-then-b-eq1
 returns-then-b-eq1 c =
-    let told_s : Told c.args.s = let g = c.well_formed.0.1.1 in (g.0.1, g.1.0.1) in
-    let told_a : Told c.args.a = let g = c.well_formed.1.0.1.1 in (g.0.1, g.1.0.1) in
-    let told_b : Told c.args.b = let g = c.well_formed.1.1.0.1.1 in (g.0.1, g.1.0.1) in
+    let told_s : Told c.args.s = search rules in
+    let told_a : Told c.args.a = search rules in
+    let told_b : Told c.args.b = search rules in
     λ u v w.
     let whole : (f : Fraction) → IsFraction f → nat_abs f.den ≡ 1 → IsWhole f = λ f h e. record { is = h; one = e } in
     c.add_product_whole.ensures
@@ -27,3 +31,15 @@ returns-then-b-eq1 c =
     (whole _ u (ap nat_abs (one-read c.args.s.den told_s.1 c.if-s-eq1.true)))
     (whole _ v (ap nat_abs (one-read c.args.a.den told_a.1 c.if-a-eq1.true)))
     (whole _ w (ap nat_abs (one-read c.args.b.den told_b.1 c.if-b-eq1.true)))
+
+pub returns-in_err-product : goal.returns-in_err-product
+returns-in_err-product c = λ u v w.
+    let same : c.from_residual.result ≡ Err c.in_err-product.field-0.0 = search rules in
+    ap arithmetic_says same ∙ ap (λ (o : Outcome Fraction). after o (sum_of c.args.s)) (c.in_err-product.ensures v w)
+    ∙ sym (product_then_sum c.args.s c.args.a c.args.b (u, v, w))
+
+pub returns : goal.returns
+returns c = λ u v w.
+    let gave = c.in_ok-product.ensures v w in
+    c.sum.ensures u (product_is c.args.a c.args.b _ (sym gave)) ∙ ap (λ (o : Outcome Fraction). after o (sum_of c.args.s)) gave
+    ∙ sym (product_then_sum c.args.s c.args.a c.args.b (u, v, w))
