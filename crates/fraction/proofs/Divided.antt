@@ -22,6 +22,10 @@ use Rattle.fraction.specs.Results.{in_lowest_terms, Shared, ResultOf}
 pub gcd-rest : (a b : ℕ) → 0 < b → gcd (a % b) b ≡ gcd a b
 gcd-rest a b h = gcd_comm (a % b) b ∙ sym (gcd-step a b h)
 
+-- of a part x, which is p
+pub by_rest : (x p g h : ℕ) → 0 < g → x ≡ p → h ≡ gcd (x % g) g → h ≡ gcd p g
+by_rest x p g h k i e = e ∙ gcd-rest x g k ∙ ap (λ (n : ℕ). gcd n g) i
+
 -- where what divides p and d divides g, what divides p and g is all that need be looked at
 pub gcd_by : (p d g h : ℕ) → gcd p d ∣ g → h ≡ gcd p g → gcd d h ≡ gcd p d
 gcd_by p d g h m e =

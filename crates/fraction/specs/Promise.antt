@@ -6,10 +6,11 @@ use Rattle.std.specs.Prelude.{◌≡◌, Bool, ℕ, ◌<◌, ℤ}
 use Rattle.integers.specs.Signs.{with_sign}
 use Rattle.arithmetic.specs.Outcome.{Outcome}
 use Rattle.arithmetic.specs.Quotient.{◌+Q◌, ◌*Q◌}
-use Rattle.arithmetic.specs.Fraction.{IsFraction, exact, product_of, sum_of, add_product_of, reduced_of, Order, compare_of, floor_of, ceiling_of}
+use Rattle.arithmetic.specs.Fraction.{IsFraction, exact, product_of, sum_of, add_product_of, reduced_of, compare_of, floor_of, ceiling_of}
 use Rattle.arithmetic.specs.Meaning.{Means, MeansInTwo, Answers, Says, IsFloor, IsCeiling}
 use Rattle.arithmetic.specs.Parts.{over}
 use Rattle.arithmetic.specs.declared.Fraction.{Fraction}
+use Rattle.std.specs.declared.cmp.Ordering.{Ordering}
 
 pub record Meant {A : Type 0} (definition : Outcome A) (Meaning : Outcome A → Type 0) (outcome : Outcome A) : Type 0 where
   pub equation : outcome ≡ definition
@@ -34,7 +35,7 @@ AddProductMeant sum a b =
     Meant (add_product_of sum a b) (MeansInTwo (IsFraction sum × IsFraction a × IsFraction b) (exact a *Q exact b) (exact sum +Q exact a *Q exact b))
 
 -- "Comparisons are exact, never 12": the order of the rational numbers; 4 as above
-abbrev pub ComparisonMeant : Fraction → Fraction → Outcome Order → Type 0
+abbrev pub ComparisonMeant : Fraction → Fraction → Outcome Ordering → Type 0
 ComparisonMeant a b = Meant (compare_of a b) (Answers (IsFraction a × IsFraction b) (Says (exact a) (exact b)))
 
 -- "floor(-1/2) = -1", "ceiling(-1/2) = 0": the greatest whole number that is at most the value, the least that is at least it; 4

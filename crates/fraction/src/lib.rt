@@ -3,7 +3,7 @@
 // brought to such a fraction. No public function asks anything of its caller: operands that are no fractions are refused.
 #![tactic(auto)]
 
-ghost use Rattle.std.specs.Prelude.{◌≡◌, ◌&&◌, ◌<◌, eqb, nat_abs};
+ghost use Rattle.std.specs.Prelude.{◌≡◌, ◌&&◌, ◌<◌, true, nat_abs};
 ghost use Rattle.std.specs.Int.{◌∣◌};
 ghost use Rattle.integers.specs.Gcd.{gcd as gcd_of};
 ghost use Rattle.arithmetic.specs.Quotient.{lowest};
@@ -13,8 +13,9 @@ ghost use Rattle.fraction.specs.Promise.{ProductMeant, SumMeant, ReducedMeant, A
 ghost use Rattle.fraction.specs.Results.{in_lowest_terms, ResultOf};
 
 use arithmetic::Ratio;
-pub use arithmetic::{Arithmetic, Comparison, Fraction, Rounding};
+pub use arithmetic::{ArithmeticError, Fraction, NotAFraction};
 use divisors::Pair;
+use std::cmp::Ordering;
 
 // Above this product of denominators, three greatest common divisors in one loop take less time than one after the other.
 const WIDE: u64 = 1048576;
@@ -26,8 +27,8 @@ fn parts(f: Fraction) -> Pair
     ensures { (result.x ≡ nat_abs f.num) × (result.y ≡ nat_abs f.den) }
 {
     Pair {
-        x: arithmetic::magnitude(f.num) as u64,
-        y: arithmetic::magnitude(f.den) as u64,
+        x: u64::from(f.num.unsigned_abs()),
+        y: u64::from(f.den.unsigned_abs()),
     }
 }
 
@@ -36,33 +37,21 @@ fn is_lowest(f: Fraction) -> bool
     ensures { result ≡ in_lowest_terms f }
 {
     let p = parts(f);
-    if p.y == 1 {
-        true
-    } else {
-        divisors::gcd(p.x, p.y) == 1
-    }
+    p.y == 1 || divisors::gcd(p.x, p.y) == 1
 }
 
 // Whether a pair is a fraction in lowest terms within the limit.
 fn is_fraction(f: Fraction) -> bool
     ensures { result ≡ is_fraction f }
 {
-    if arithmetic::is_shaped(f) {
-        is_lowest(f)
-    } else {
-        false
-    }
+    arithmetic::is_shaped(f) && is_lowest(f)
 }
 
 // Whether two pairs are fractions if they are in lowest terms.
 fn both_shaped(a: Fraction, b: Fraction) -> bool
     ensures { result ≡ is_shaped a && is_shaped b }
 {
-    if arithmetic::is_shaped(a) {
-        arithmetic::is_shaped(b)
-    } else {
-        false
-    }
+    arithmetic::is_shaped(a) && arithmetic::is_shaped(b)
 }
 
 // Whether two pairs are in lowest terms. Where neither is whole, one loop tells it of both.
@@ -78,45 +67,56 @@ fn both_lowest(a: Fraction, b: Fraction) -> bool
         return is_lowest(a);
     }
     let v = divisors::gcds(p, q, Pair { x: 1, y: 1 });
-    if v.a == 1 { v.b == 1 } else { false }
+    v.a == 1 && v.b == 1
 }
 
 // Whether both are fractions in lowest terms within the limit.
 fn both(a: Fraction, b: Fraction) -> bool
     ensures { result ≡ is_fraction a && is_fraction b }
 {
-    if both_shaped(a, b) {
-        both_lowest(a, b)
-    } else {
-        false
-    }
+    both_shaped(a, b) && both_lowest(a, b)
 }
 
 // Whether three pairs are fractions.
 fn all_three(a: Fraction, b: Fraction, c: Fraction) -> bool
     ensures { result ≡ is_fraction a && (is_fraction b && is_fraction c) }
 {
-    if is_fraction(a) { both(b, c) } else { false }
+    is_fraction(a) && both(b, c)
 }
 
 // ---- product and sum
 
+// A result brought to lowest terms by g, the greatest common divisor of its parts.
+fn by_divisor(q: Ratio, g: u64) -> Result<Fraction, ArithmeticError>
+    requires { (0 < q.bottom) × (g ≡ gcd_of q.top q.bottom) }
+    ensures { arithmetic_says result ≡ within_of (lowest (ratio_of q)) }
+{
+    Ratio {
+        top: q.top / g,
+        bottom: q.bottom / g,
+        ..q
+    }
+    .within()
+}
+
 // The result q of a and b brought to lowest terms, if a and b are in lowest terms: three greatest common divisors in one loop.
-fn lowest_together(a: Fraction, b: Fraction, q: Ratio) -> Arithmetic
+fn lowest_together(a: Fraction, b: Fraction, q: Ratio) -> Result<Fraction, ArithmeticError>
     requires { 0 < q.bottom }
     ensures { arithmetic_says result ≡ on_fractions (in_lowest_terms a && in_lowest_terms b) (within_of (lowest (ratio_of q))) }
 {
-    let n = q.top;
-    let d = q.bottom;
-    let v = divisors::gcds(parts(a), parts(b), Pair { x: n, y: d });
-    if v.a != 1 {
-        return Arithmetic::NotAFraction;
+    let v = divisors::gcds(
+        parts(a),
+        parts(b),
+        Pair {
+            x: q.top,
+            y: q.bottom,
+        },
+    );
+    if v.a == 1 && v.b == 1 {
+        by_divisor(q, v.c)
+    } else {
+        Err(ArithmeticError::NotAFraction)
     }
-    if v.b != 1 {
-        return Arithmetic::NotAFraction;
-    }
-    let g = v.c;
-    arithmetic::within(q.negative, n / g, d / g)
 }
 
 // Whether a pair is in lowest terms, where the common divisors of its parts divide g.
@@ -126,24 +126,20 @@ fn is_lowest_by(g: u64, f: Fraction) -> bool
 {
     let p = parts(f);
     let h = divisors::gcd(p.x % g, g);
-    if h == 1 {
-        return true;
-    }
-    divisors::gcd(p.y % h, h) == 1
+    h == 1 || divisors::gcd(p.y % h, h) == 1
 }
 
 // The result q of a and b brought to lowest terms by g, the greatest common divisor of its parts, if a and b are in lowest
 // terms.
-fn lowest_by(a: Fraction, b: Fraction, q: Ratio, g: u64) -> Arithmetic
+fn lowest_by(a: Fraction, b: Fraction, q: Ratio, g: u64) -> Result<Fraction, ArithmeticError>
     requires { ResultOf a b q × (g ≡ gcd_of q.top q.bottom) }
     ensures { arithmetic_says result ≡ on_fractions (in_lowest_terms a && in_lowest_terms b) (within_of (lowest (ratio_of q))) }
 {
-    if is_lowest_by(g, a) {
-        if is_lowest_by(g, b) {
-            return arithmetic::within(q.negative, q.top / g, q.bottom / g);
-        }
+    if is_lowest_by(g, a) && is_lowest_by(g, b) {
+        by_divisor(q, g)
+    } else {
+        Err(ArithmeticError::NotAFraction)
     }
-    Arithmetic::NotAFraction
 }
 
 // The greatest common divisor of the parts of a result.
@@ -160,7 +156,7 @@ fn divisor_of(q: Ratio) -> u64
 
 // The result q of a and b brought to lowest terms, if a and b are in lowest terms. What divides both parts of an operand
 // divides both parts of the result: a result in lowest terms shows that the operands are.
-fn lowest_result(a: Fraction, b: Fraction, q: Ratio) -> Arithmetic
+fn lowest_result(a: Fraction, b: Fraction, q: Ratio) -> Result<Fraction, ArithmeticError>
     requires { ResultOf a b q }
     ensures { arithmetic_says result ≡ on_fractions (in_lowest_terms a && in_lowest_terms b) (within_of (lowest (ratio_of q))) }
 {
@@ -169,77 +165,86 @@ fn lowest_result(a: Fraction, b: Fraction, q: Ratio) -> Arithmetic
     }
     let g = divisor_of(q);
     if g == 1 {
-        return arithmetic::within(q.negative, q.top, q.bottom);
+        return q.within();
     }
     lowest_by(a, b, q, g)
 }
 
-pub fn product(a: Fraction, b: Fraction) -> Arithmetic
-    ensures { ProductMeant a b (arithmetic_says result) }
+// The result q of a and b brought to lowest terms, if a and b are fractions.
+fn result_of(a: Fraction, b: Fraction, q: Ratio) -> Result<Fraction, ArithmeticError>
+    requires { is_shaped a && is_shaped b ≡ true → ResultOf a b q }
+    ensures { arithmetic_says result ≡ on_fractions (is_fraction a && is_fraction b) (within_of (lowest (ratio_of q))) }
 {
     if both_shaped(a, b) {
-        lowest_result(a, b, arithmetic::multiplied(a, b))
+        lowest_result(a, b, q)
     } else {
-        Arithmetic::NotAFraction
+        Err(ArithmeticError::NotAFraction)
     }
 }
 
-pub fn sum(a: Fraction, b: Fraction) -> Arithmetic
+pub fn product(a: Fraction, b: Fraction) -> Result<Fraction, ArithmeticError>
+    ensures { ProductMeant a b (arithmetic_says result) }
+{
+    result_of(a, b, arithmetic::multiplied(a, b))
+}
+
+pub fn sum(a: Fraction, b: Fraction) -> Result<Fraction, ArithmeticError>
     ensures { SumMeant a b (arithmetic_says result) }
 {
-    if both_shaped(a, b) {
-        lowest_result(a, b, arithmetic::added(a, b))
-    } else {
-        Arithmetic::NotAFraction
-    }
+    result_of(a, b, arithmetic::added(a, b))
 }
 
 // n / d, negated if asked, brought to lowest terms. No fraction has the denominator 0.
-pub fn reduced(negative: bool, n: u64, d: u64) -> Arithmetic
+pub fn reduced(negative: bool, n: u64, d: u64) -> Result<Fraction, ArithmeticError>
     ensures { ReducedMeant negative n d (arithmetic_says result) }
 {
-    arithmetic::reduced(negative, n, d)
+    Ratio {
+        negative,
+        top: n,
+        bottom: d,
+    }
+    .reduced()
 }
 
 // A sum and a product more: a * b, then sum + a * b, each brought to lowest terms within the limit.
-pub fn add_product(sum: Fraction, a: Fraction, b: Fraction) -> Arithmetic
+pub fn add_product(sum: Fraction, a: Fraction, b: Fraction) -> Result<Fraction, ArithmeticError>
     ensures { AddProductMeant sum a b (arithmetic_says result) }
 {
     if all_three(sum, a, b) {
         arithmetic::add_product(sum, a, b)
     } else {
-        Arithmetic::NotAFraction
+        Err(ArithmeticError::NotAFraction)
     }
 }
 
 // ---- comparison and rounding
 
-pub fn compare(a: Fraction, b: Fraction) -> Comparison
+pub fn compare(a: Fraction, b: Fraction) -> Result<Ordering, NotAFraction>
     ensures { ComparisonMeant a b (comparison_says result) }
 {
     if both(a, b) {
-        arithmetic::compare(a, b)
+        Ok(arithmetic::compare(a, b))
     } else {
-        Comparison::NotAFraction
+        Err(NotAFraction)
     }
 }
 
-pub fn floor(a: Fraction) -> Rounding
+pub fn floor(a: Fraction) -> Result<i32, NotAFraction>
     ensures { FloorMeant a (rounding_says result) }
 {
     if is_fraction(a) {
         arithmetic::floor(a)
     } else {
-        Rounding::NotAFraction
+        Err(NotAFraction)
     }
 }
 
-pub fn ceiling(a: Fraction) -> Rounding
+pub fn ceiling(a: Fraction) -> Result<i32, NotAFraction>
     ensures { CeilingMeant a (rounding_says result) }
 {
     if is_fraction(a) {
         arithmetic::ceiling(a)
     } else {
-        Rounding::NotAFraction
+        Err(NotAFraction)
     }
 }

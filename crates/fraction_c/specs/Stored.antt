@@ -3,12 +3,13 @@
 -- Assumes nothing.
 use Rattle.std.specs.Prelude.{pos, negsuc, ℤ}
 use Rattle.arithmetic.specs.Outcome.{Outcome, gives, refuses}
-use Rattle.arithmetic.specs.Fraction.{Order, less, equal, greater}
+use Rattle.std.specs.declared.cmp.Ordering.{Ordering}
+use Rattle.std.specs.declared.cmp.Ordering.TheVariants.{Less, Equal, Greater}
 pub use Rattle.fraction.specs.Stored.{status, contents, Stored, pair}
 
 -- a comparison's result as a number: -1 for less, 0 for equal, 1 for greater
-abbrev pub sign_of : Outcome Order → Outcome ℤ
-sign_of (gives less) = gives (negsuc 0)
-sign_of (gives equal) = gives (pos 0)
-sign_of (gives greater) = gives (pos 1)
+abbrev pub sign_of : Outcome Ordering → Outcome ℤ
+sign_of (gives Less) = gives (negsuc 0)
+sign_of (gives Equal) = gives (pos 0)
+sign_of (gives Greater) = gives (pos 1)
 sign_of (refuses n) = refuses n

@@ -2,61 +2,53 @@
 // number of the refusal, on which nothing is stored. include/fraction.h declares the functions.
 #![tactic(auto)]
 
+ghost use Rattle.std.specs.Prelude.{◌≡◌};
 ghost use Rattle.arithmetic.specs.Fraction.{product_of, sum_of, compare_of, floor_of, ceiling_of, arithmetic_says, comparison_says, rounding_says};
 ghost use Rattle.fraction_c.specs.Stored.{Stored, pair, sign_of};
 
-use fraction::{Arithmetic, Comparison, Fraction, Rounding};
+use fraction::{ArithmeticError, Fraction, NotAFraction};
+use std::cmp::Ordering;
+
+// An operand.
+fn pair(num: i32, den: i32) -> Fraction
+    ensures { result ≡ pair num den }
+{
+    Fraction { num, den }
+}
 
 // The answer of a product or a sum.
-fn store(answer: Arithmetic, num: &mut i32, den: &mut i32) -> u8
+fn store(answer: Result<Fraction, ArithmeticError>, num: &mut i32, den: &mut i32) -> u8
     ensures { Stored (arithmetic_says answer) result
         (pair num.old den.old) (pair num.new den.new) }
 {
     match answer {
-        Arithmetic::Value(f) => {
-            let n = f.num;
-            let d = f.den;
-            *num = n;
-            *den = d;
+        Ok(f) => {
+            *num = f.num;
+            *den = f.den;
             0
         }
-        Arithmetic::NotAFraction => 4,
-        Arithmetic::TooWide => 12,
-    }
-}
-
-// The answer of a comparison.
-fn store_order(answer: Comparison, order: &mut i32) -> u8
-    ensures { Stored (sign_of (comparison_says answer)) result order.old order.new }
-{
-    match answer {
-        Comparison::Less => {
-            *order = -1;
-            0
-        }
-        Comparison::Equal => {
-            *order = 0;
-            0
-        }
-        Comparison::Greater => {
-            *order = 1;
-            0
-        }
-        Comparison::NotAFraction => 4,
+        Err(refusal) => refusal.into(),
     }
 }
 
 // The answer of floor or ceiling.
-fn store_whole(answer: Rounding, whole: &mut i32) -> u8
+fn store_whole(answer: Result<i32, NotAFraction>, whole: &mut i32) -> u8
     ensures { Stored (rounding_says answer) result whole.old whole.new }
 {
     match answer {
-        Rounding::Whole(n) => {
+        Ok(n) => {
             *whole = n;
             0
         }
-        Rounding::NotAFraction => 4,
+        Err(refusal) => ArithmeticError::from(refusal).into(),
     }
+}
+
+// The answer of a comparison: -1 for less, 0 for equal, 1 for greater.
+fn store_order(answer: Result<Ordering, NotAFraction>, order: &mut i32) -> u8
+    ensures { Stored (sign_of (comparison_says answer)) result order.old order.new }
+{
+    store_whole(answer.map(|o| o as i32), order)
 }
 
 #[unsafe(no_mangle)]
@@ -71,14 +63,8 @@ pub extern "C" fn fraction_product(
     ensures { Stored (product_of (pair a_num a_den) (pair b_num b_den)) result
         (pair num.old den.old) (pair num.new den.new) }
 {
-    let a = Fraction {
-        num: a_num,
-        den: a_den,
-    };
-    let b = Fraction {
-        num: b_num,
-        den: b_den,
-    };
+    let a = pair(a_num, a_den);
+    let b = pair(b_num, b_den);
     store(fraction::product(a, b), num, den)
 }
 
@@ -94,14 +80,8 @@ pub extern "C" fn fraction_sum(
     ensures { Stored (sum_of (pair a_num a_den) (pair b_num b_den)) result
         (pair num.old den.old) (pair num.new den.new) }
 {
-    let a = Fraction {
-        num: a_num,
-        den: a_den,
-    };
-    let b = Fraction {
-        num: b_num,
-        den: b_den,
-    };
+    let a = pair(a_num, a_den);
+    let b = pair(b_num, b_den);
     store(fraction::sum(a, b), num, den)
 }
 
@@ -116,14 +96,8 @@ pub extern "C" fn fraction_compare(
     ensures { Stored (sign_of (compare_of (pair a_num a_den) (pair b_num b_den))) result
         order.old order.new }
 {
-    let a = Fraction {
-        num: a_num,
-        den: a_den,
-    };
-    let b = Fraction {
-        num: b_num,
-        den: b_den,
-    };
+    let a = pair(a_num, a_den);
+    let b = pair(b_num, b_den);
     store_order(fraction::compare(a, b), order)
 }
 
@@ -131,12 +105,12 @@ pub extern "C" fn fraction_compare(
 pub extern "C" fn fraction_floor(num: i32, den: i32, whole: &mut i32) -> u8
     ensures { Stored (floor_of (pair num den)) result whole.old whole.new }
 {
-    store_whole(fraction::floor(Fraction { num, den }), whole)
+    store_whole(fraction::floor(pair(num, den)), whole)
 }
 
 #[unsafe(no_mangle)]
 pub extern "C" fn fraction_ceiling(num: i32, den: i32, whole: &mut i32) -> u8
     ensures { Stored (ceiling_of (pair num den)) result whole.old whole.new }
 {
-    store_whole(fraction::ceiling(Fraction { num, den }), whole)
+    store_whole(fraction::ceiling(pair(num, den)), whole)
 }
