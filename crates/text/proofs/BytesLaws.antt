@@ -1,8 +1,11 @@
 -- Laws of byte strings: `same` decides equality; `every` and `leading` along a string.
 -- Assumes nothing.
-use Rattle.std.specs.Prelude.{◌≡◌, refl, Bool, true, false, cond, ◌&&◌, List, [], ◌∷◌, ◌++◌, ℕ, zero, suc, ◌+◌, ◌≤◌, ◌<◌, eqb, length, take, drop, get_or}
-use Rattle.std.proofs.Common.{sym, ap, subst, zero-add, suc-add, le_of_suc-le-suc, not-suc-le-zero, add-one, arith, drop-cons, eq-eqb, eqb-true}
+use Rattle.std.specs.Prelude.{◌≡◌, refl, Bool, true, false, cond, ◌&&◌, List, [], ◌∷◌, ◌++◌, ℕ, zero, suc, ◌+◌, ◌-◌, ◌≤◌, ◌<◌, eqb, length, take, drop, get_or}
+use Rattle.std.specs.List.{prefix_len, take_while}
+use Rattle.std.proofs.lemmas.List.Folds.{length-prefix_len}
+use Rattle.std.proofs.Common.{◌∙◌, sym, ap, subst, zero-add, suc-add, le_of_suc-le-suc, not-suc-le-zero, add-one, arith, drop-cons, length-drop, eq-eqb, eqb-true}
 use Rattle.std.proofs.Math.Seq.{slice, take-nil}
+use lib.Pointwise.{pointwise}
 use Rattle.text.specs.Bytes.{Bytes, every, leading, same}
 
 -- no test is both
@@ -31,6 +34,13 @@ same_true (a ∷ u) (b ∷ v) e =
 
 pub same_false : (u v : Bytes) → same u v ≡ false → u ≡ v → ⊥
 same_false u v e p = clash e (subst (λ (w : Bytes). same u w ≡ true) p (same_refl u))
+
+-- and it is the equality of slices
+pub same_bytes : (u v : Bytes) → pointwise eqb u v ≡ same u v
+same_bytes [] [] = refl
+same_bytes [] (b ∷ v) = refl
+same_bytes (a ∷ u) [] = refl
+same_bytes (a ∷ u) (b ∷ v) = rw (same_bytes u v)
 
 -- ---- every, leading
 
@@ -82,6 +92,21 @@ module _ (test : ℕ → Bool) where
   leading-append (b ∷ u) v p =
       let h = both (test b) (every test u) p in
       rw (h.0, suc-add) (ap suc (leading-append u v h.1))
+
+-- how many bytes a chain takes while they pass
+pub leading_taken : (test : ℕ → Bool) (w : Bytes) → length (take_while test w) ≡ leading test w
+leading_taken test w = length-prefix_len test w ∙ go w
+  where
+    go : (u : Bytes) → prefix_len test u ≡ leading test u
+    go [] = refl
+    go (b ∷ u) = at (test b) (go u)
+      where
+        at : (x : Bool) → prefix_len test u ≡ leading test u → cond x (1 + prefix_len test u) 0 ≡ cond x (suc (leading test u)) 0
+        at true ih = omega (arith, ih)
+        at false ih = refl
+
+pub taken_le : (test : ℕ → Bool) (at : ℕ) (w : Bytes) → length (take_while test (drop at w)) ≤ length w - at
+taken_le test at w = omega (arith, leading_taken test (drop at w), leading_le test (drop at w), length-drop at w)
 
 -- ---- parts
 

@@ -1,6 +1,5 @@
--- Laws that the functions' proofs cite: tests, what a turn of each loop does, parts of a text, tokens found, what answers say in
+-- Laws that the functions' proofs cite: what a turn of each loop does, parts of a text, tokens found, what answers say in
 -- words.
-pub mod Tests
 pub mod Turns
 pub mod Parts
 pub mod Scanning

@@ -6,10 +6,12 @@ use mathlib.Core.List.{[]}
 use Prim.Native.Nat.{ℕ}
 use native.Mathlib.Omega.{arith}
 use lib.ListN.{length, drop}
+use lib.Pointwise.{pointwise}
+use lib.Dec.{eqb}
 use lib.Seq.{slice, length-slice}
 use denote.Ref.{Bor}
 use Rattle.text.specs.Bytes.{Bytes, same}
-use Rattle.text.proofs.BytesLaws.{same_refl, same_true}
+use Rattle.text.proofs.BytesLaws.{same_bytes, same_refl, same_true}
 use Rattle.text.specs.Comments.{comments_end}
 use Rattle.text.proofs.CommentsLaws.{comments_end_at}
 use Rattle.text.specs.Tokens.{FirstToken, HasTokens, FirstGoes, Stream, listed, rest}
@@ -20,8 +22,8 @@ use Rattle.text.specs.Shown.{begins_token, shown_from, shown_to, shown_at, IsPar
 use Rattle.text.proofs.ShownLaws.{begun_rest, from_none, to_none, text_token_shown}
 use Rattle.text.specs.Promises.{CommentsPassed, TokenScanned, PartTaken, WordCompared, TokenShown}
 use Rattle.text.proofs.Parts.{slice_least}
-use Rattle.text.specs.declared.Scan.{Scan}
-use Rattle.text.specs.declared.Scan.TheVariants as scan
+use Rattle.text.specs.declared.Token.{Token as Answer}
+use Rattle.std.proofs.Common.{Option, Some}
 
 pub comments_passed : (text : Bytes) {r : ℕ} → r ≡ comments_end text → CommentsPassed text r
 comments_passed text e =
@@ -30,9 +32,9 @@ comments_passed text e =
       ends_exactly = λ place. let h = comments_end_at text place in (λ c. h.0 c ∙ sym e, λ q. h.1 (q ∙ e));
     }
 
-module _ (text : Bytes) (at : ℕ) {r : Scan} (e : r ≡ scan_of (rest text at)) where
+module _ (text : Bytes) (at : ℕ) {r : Option Answer} (e : r ≡ scan_of (rest text at)) where
   -- a token that is found is the first
-  is_first : (from to : ℕ) → r ≡ scan.Token from to → FirstGoes text at from to
+  is_first : (from to : ℕ) → r ≡ Some (record { from = from; to = to }) → FirstGoes text at from to
   is_first from to h =
       let f = found text at (sym e ∙ h) in
       let all = (has_tokens text at (listed (rest text at))).1 (rest_is text at) in
@@ -45,9 +47,9 @@ module _ (text : Bytes) (at : ℕ) {r : Scan} (e : r ≡ scan_of (rest text at))
       }
 
   -- and the first is found
-  first_is : (from to : ℕ) → FirstGoes text at from to → r ≡ scan.Token from to
+  first_is : (from to : ℕ) → FirstGoes text at from to → r ≡ Some (record { from = from; to = to })
   unfolding rest
-  first_is from to g = e ∙ ap scan_of (first_stream (length text) g.first) ∙ ap (scan.Token from) (sym g.ends)
+  first_is from to g = e ∙ ap scan_of (first_stream (length text) g.first) ∙ ap (λ n. Some (record { from = from; to = n })) (sym g.ends)
 
   pub token_scanned : TokenScanned text at r
   token_scanned =
@@ -61,12 +63,16 @@ pub part_taken : {text answer : Bor Bytes} (from to : ℕ) → IsPart text (part
     → PartTaken text from to answer
 part_taken {text} from to p = record { itself = p; bytes = p.bytes ∙ slice_least from to text.now }
 
-pub word_compared : (part word : Bytes) {r : Bool} → r ≡ same part word → WordCompared part word r
+word_compared : (part word : Bytes) {r : Bool} → r ≡ same part word → WordCompared part word r
 word_compared part word e =
     record {
       by_definition = e;
       equal_exactly = (λ t. same_true part word (sym e ∙ t), λ q. e ∙ subst (λ (w : Bytes). same part w ≡ true) q (same_refl part));
     }
+
+-- the part of a text is compared with the word as a slice
+pub slice_compared : {word part asked : Bytes} {r : Bool} → r ≡ pointwise eqb part word → part ≡ asked → WordCompared asked word r
+slice_compared {word} {part} r p = word_compared _ word (r ∙ same_bytes part word ∙ ap (λ (w : Bytes). same w word) p)
 
 module _ {text answer : Bor Bytes} (place : ℕ) (p : IsPart text (shown_from text.now place) (shown_to text.now place) answer) where
   is_begun : begins_token text.now place ≡ true

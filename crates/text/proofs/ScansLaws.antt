@@ -1,6 +1,6 @@
 -- What is left of a text at a place: past separators, at a token, past a token; and so what `scan_of` says of the first token.
 -- Assumes nothing.
-use Rattle.std.specs.Prelude.{◌≡◌, refl, Bool, true, false, not, List, [], ◌∷◌, ◌++◌, ℕ, ◌+◌, ◌≤◌, ◌<◌, ltb, get_or}
+use Rattle.std.specs.Prelude.{◌≡◌, refl, Bool, true, false, not, List, [], ◌∷◌, ◌++◌, ℕ, ◌+◌, ◌≤◌, ◌<◌, Some, None, ltb, get_or}
 use Rattle.std.proofs.Math.Path.{sym, ap}
 use Rattle.std.proofs.Common.{◌∙◌, subst, zero-lt-suc, arith, length-drop, take-append-drop, drop_of_length-le, length-take-le, drop-drop, ltb-true, ltb-false}
 use Rattle.std.proofs.Math.ListN.{length, take, drop}
@@ -11,7 +11,7 @@ use Rattle.text.proofs.BytesLaws.{leading_le, leading-every, leading_stop, uncon
 use Rattle.text.specs.Tokens.{Token, is_token_byte, is_ended, end, token, join, listed, stream_at, rest, token_end}
 use Rattle.text.proofs.TokensLaws.{stream_gap, stream_token, rest_is}
 use Rattle.text.specs.Scans.{scan_of, Found}
-use Rattle.text.specs.declared.Scan.TheVariants as scan
+use Rattle.text.specs.declared.Token.{Token as Answer}
 
 -- the bytes that lead a part, and what is left of it
 cut_leading : (test : ℕ → Bool) (part : Bytes) → take (leading test part) part ++ drop (leading test part) part ≡ part
@@ -96,13 +96,13 @@ module _ (text : Bytes) where
 
 -- ---- what `scan_of` says
 
-pub scan_found : {text : Bytes} {at from to : ℕ} → Found text at from to → scan_of (rest text at) ≡ scan.Token from to
+pub scan_found : {text : Bytes} {at from to : ℕ} → Found text at from to → scan_of (rest text at) ≡ Some (record { from = from; to = to })
 scan_found {text} {at} {from} {to} f =
     let e : from + length (slice from to text) ≡ to = omega (arith, length-slice from to text f.inside, f.not-empty) in
-    ap scan_of f.first ∙ ap (scan.Token from) e
+    ap scan_of f.first ∙ ap (λ n. Some (record { from = from; to = n })) e
 
 module _ (text : Bytes) (at : ℕ) where
-  pub found : {from to : ℕ} → scan_of (rest text at) ≡ scan.Token from to → Found text at from to
+  pub found : {from to : ℕ} → scan_of (rest text at) ≡ Some (record { from = from; to = to }) → Found text at from to
   found {from} {to} e = go (ltb start (length text)) refl
     where
       start : ℕ
@@ -112,14 +112,15 @@ module _ (text : Bytes) (at : ℕ) where
       go true h =
           let f = found_first text at (ltb-true start (length text) h) in
           let k = scan_found f in
-          let p : start ≡ from = cc in
-          let q : token_end text start ≡ to = cc in
+          let same : ◌≡◌ {A = Answer} (record { from = from; to = to }) (record { from = start; to = token_end text start }) = cc in
+          let p : start ≡ from = sym (ap (λ (t : Answer). t.from) same) in
+          let q : token_end text start ≡ to = sym (ap (λ (t : Answer). t.to) same) in
           subst (λ (n : ℕ). Found text at n to) p (subst (Found text at start) q f)
       go false h =
-          let k : scan_of (rest text at) ≡ scan.End = ap scan_of (none_left text at (ltb-false start (length text) h)) in
+          let k : scan_of (rest text at) ≡ None = ap scan_of (none_left text at (ltb-false start (length text) h)) in
           absurd (let z : ◌≡◌ {A = ℕ} 0 1 = cc in omega arith)
 
-  pub ended : scan_of (rest text at) ≡ scan.End → rest text at ≡ end (length text)
+  pub ended : scan_of (rest text at) ≡ None → rest text at ≡ end (length text)
   ended e = go (listed (rest text at)) (rest_is text at)
     where
       go : (ts : List Token) → rest text at ≡ join ts (end (length text)) → rest text at ≡ end (length text)

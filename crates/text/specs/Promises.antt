@@ -1,6 +1,6 @@
 -- What the public functions promise of their answers: each is the one that a definition works out, and what that says in words.
 -- Assumes nothing.
-use Rattle.std.specs.Prelude.{◌≡◌, Bool, true, false, ◌↔◌, List, [], ◌∷◌, ◌++◌, ℕ, length, drop}
+use Rattle.std.specs.Prelude.{◌≡◌, Bool, true, false, ◌↔◌, List, [], ◌∷◌, ◌++◌, ℕ, Option, Some, None, length, drop}
 use Rattle.std.proofs.Math.Seq.{slice}
 use Rattle.std.specs.Borrow.{Bor}
 use Rattle.text.specs.Bytes.{Bytes, same}
@@ -8,8 +8,7 @@ use Rattle.text.specs.Comments.{CommentsEndAt, comments_end}
 use Rattle.text.specs.Tokens.{Token, FirstToken, HasTokens, FirstGoes, TextHasTokens, rest}
 use Rattle.text.specs.Shown.{begins_token, shown_from, shown_to, IsPart, part_from, part_to}
 use Rattle.text.specs.Scans.{scan_of}
-use Rattle.text.specs.declared.Scan.{Scan}
-use Rattle.text.specs.declared.Scan.TheVariants as scan
+use Rattle.text.specs.declared.Token.{Token as Answer}
 
 -- `comments_end`
 pub record CommentsPassed (text : Bytes) (answer : ℕ) : Type 0 where
@@ -18,11 +17,11 @@ pub record CommentsPassed (text : Bytes) (answer : ℕ) : Type 0 where
   pub ends_exactly : (place : ℕ) → CommentsEndAt text place ↔ (place ≡ answer)
 
 -- `next_token`
-pub record TokenScanned (text : Bytes) (at : ℕ) (answer : Scan) : Type 0 where
+pub record TokenScanned (text : Bytes) (at : ℕ) (answer : Option Answer) : Type 0 where
   pub by_definition : answer ≡ scan_of (rest text at)
-  -- it is a token exactly where that is the first from `at` on, and the end exactly where none but separators are left
-  pub token_exactly : (from to : ℕ) → (answer ≡ scan.Token from to) ↔ FirstGoes text at from to
-  pub end_exactly : (answer ≡ scan.End) ↔ HasTokens at (drop at text) []
+  -- it is a token exactly where that is the first from `at` on, and none exactly where none but separators are left
+  pub token_exactly : (from to : ℕ) → (answer ≡ Some (record { from = from; to = to })) ↔ FirstGoes text at from to
+  pub end_exactly : (answer ≡ None) ↔ HasTokens at (drop at text) []
 
 -- `part`: a part of the lent text itself
 pub record PartTaken (text : Bor Bytes) (from to : ℕ) (answer : Bor Bytes) : Type 0 where
