@@ -105,8 +105,16 @@ leading_taken test w = length-prefix_len test w ∙ go w
         at true ih = omega (arith, ih)
         at false ih = refl
 
-pub taken_le : (test : ℕ → Bool) (at : ℕ) (w : Bytes) → length (take_while test (drop at w)) ≤ length w - at
-taken_le test at w = omega (arith, leading_taken test (drop at w), leading_le test (drop at w), length-drop at w)
+-- so many bytes after a place, where they lead what is left there
+module _ (test : ℕ → Bool) (at : ℕ) (text : Bytes) {part : Bytes} {n : ℕ} (count : n ≡ length (take_while test part)) (is : part ≡ drop at text) where
+  led_by : n ≡ leading test (drop at text)
+  led_by = count ∙ leading_taken test part ∙ ap (leading test) is
+
+  pub led_to : at + n ≡ at + leading test (drop at text)
+  led_to = ap (λ (m : ℕ). at + m) led_by
+
+  pub led_le : n ≤ length text - at
+  led_le = omega (arith, led_by, leading_le test (drop at text), length-drop at text)
 
 -- ---- parts
 

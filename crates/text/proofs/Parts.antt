@@ -19,7 +19,7 @@ take_least (suc n) [] = take-nil (min (suc n) 0)
 take_least (suc n) (b ∷ text) = rw suc-min-suc (ap (λ (u : Bytes). b ∷ u) (take_least n text))
 
 -- and what is left after so many, where there are so many
-drop_least : (n : ℕ) (text : Bytes) → drop (min n (length text)) text ≡ drop n text
+pub drop_least : (n : ℕ) (text : Bytes) → drop (min n (length text)) text ≡ drop n text
 drop_least zero text = rw zero-min
 drop_least (suc n) [] = drop-nil (min (suc n) 0)
 drop_least (suc n) (b ∷ text) = rw suc-min-suc (drop_least n text)

@@ -34,31 +34,32 @@ pub fn is_digit(b: u8) -> bool
     b.is_ascii_digit()
 }
 
-// How many separators stand from the place `at` on.
-fn gap(text: &[u8], at: usize) -> usize
-    ensures { result ≡ length (take_while is_separator (drop at text.now)) }
+// What is left of the text from the place `at` on.
+fn tail(text: &[u8], at: usize) -> &[u8]
+    ensures { result.now ≡ drop at text.entry.now }
 {
-    text.iter()
-        .skip(at)
-        .take_while(|b| is_separator(**b))
-        .count()
+    &text[at.min(text.len())..]
 }
 
-// How many bytes of a token stand from the place `at` on.
-fn token_len(text: &[u8], at: usize) -> usize
-    ensures { result ≡ length (take_while is_token_byte (drop at text.now)) }
+// How many separators lead the part.
+fn gap(part: &[u8]) -> usize
+    ensures { result ≡ length (take_while is_separator part.now) }
 {
-    text.iter()
-        .skip(at)
-        .take_while(|b| !is_separator(**b))
-        .count()
+    part.iter().take_while(|b| is_separator(**b)).count()
 }
 
-// How many bytes of a line stand from the place `at` on.
-fn line_len(text: &[u8], at: usize) -> usize
-    ensures { result ≡ length (take_while is_line_byte (drop at text.now)) }
+// How many bytes of a token lead the part.
+fn token_len(part: &[u8]) -> usize
+    ensures { result ≡ length (take_while is_token_byte part.now) }
 {
-    text.iter().skip(at).take_while(|b| **b != b'\n').count()
+    part.iter().take_while(|b| !is_separator(**b)).count()
+}
+
+// How many bytes of a line lead the part.
+fn line_len(part: &[u8]) -> usize
+    ensures { result ≡ length (take_while is_line_byte part.now) }
+{
+    part.iter().take_while(|b| **b != b'\n').count()
 }
 
 // The place after the comments at the start of the text.
@@ -67,7 +68,7 @@ pub fn comments_end(text: &[u8]) -> usize
 {
     let mut at = 0;
     while at < text.len() && text[at] == b'%' {
-        at = (at + line_len(text, at) + 1).min(text.len());
+        at = (at + line_len(tail(text, at)) + 1).min(text.len());
     }
     at
 }
@@ -76,8 +77,8 @@ pub fn comments_end(text: &[u8]) -> usize
 pub fn next_token(text: &[u8], at: usize) -> Option<Token>
     ensures { TokenScanned text.now at result }
 {
-    let from = at + gap(text, at);
-    let to = from + token_len(text, from);
+    let from = at + gap(tail(text, at));
+    let to = from + token_len(tail(text, from));
     (from < to).then_some(Token { from, to })
 }
 
@@ -126,7 +127,7 @@ pub fn show_token(text: &[u8], place: usize) -> &[u8]
     ensures { TokenShown text.entry place result }
 {
     if begins_token(text, place) {
-        &text[place..place + token_len(text, place)]
+        &text[place..place + token_len(tail(text, place))]
     } else {
         &text[text.len()..]
     }

@@ -4,9 +4,8 @@
 use Prim.Native.Nat.{◌+◌}
 use mathlib.Core.Path.{sym, ◌∙◌}
 use native.Mathlib.Omega.{arith}
-use lib.ListN.{drop}
 use Rattle.text.specs.Comments.{is_line_byte}
-use Rattle.text.proofs.BytesLaws.{leading_taken, taken_le}
+use Rattle.text.proofs.BytesLaws.{led_to, led_le}
 use Rattle.text.proofs.Turns.{comment_first, comment_past, comment_none, CommentLine, comment_more}
 use Rattle.text.proofs.Promised.{comments_passed}
 use Rattle.text.proofs.comments_end.Goals as goal
@@ -15,17 +14,17 @@ pub loop-at-init : goal.loop-at-init
 loop-at-init c = comment_first c.args.text.now
 
 pub overflow_add-at : goal.overflow_add-at
-overflow_add-at c = omega (arith, c.line_len.ensures, taken_le is_line_byte c.loop-at.at c.args.text.now)
+overflow_add-at c = omega (arith, led_le is_line_byte c.loop-at.at c.args.text.now c.line_len.ensures c.tail.ensures)
 
 pub overflow_add-at-in-loop-at : goal.overflow_add-at-in-loop-at
-overflow_add-at-in-loop-at c = omega (arith, c.line_len.ensures, taken_le is_line_byte c.loop-at.at c.args.text.now, c.loop-at-test.true)
+overflow_add-at-in-loop-at c = omega (arith, led_le is_line_byte c.loop-at.at c.args.text.now c.line_len.ensures c.tail.ensures, c.loop-at-test.true)
 
 pub loop-at-preserved : goal.loop-at-preserved
 loop-at-preserved c =
     let this-line : CommentLine c.args.text.now c.loop-at.at (c.loop-at.at + c.line_len.result) = record {
       inside = c.loop-at-test.true;
       percent = c.if-text-at-eq37.true;
-      goes_to = omega (arith, c.line_len.ensures, leading_taken is_line_byte (drop c.loop-at.at c.args.text.now));
+      goes_to = led_to is_line_byte c.loop-at.at c.args.text.now c.line_len.ensures c.tail.ensures;
     } in
     sym (comment_more this-line c.min-at.ensures) ∙ c.loop-at.invariant
 
