@@ -1,5 +1,6 @@
 // The reasons of derived rows, and their last indices.
-ghost use Rattle.std.specs.Prelude.{◌≡◌, ℕ, ◌≤◌};
+ghost use Rattle.std.specs.Prelude.{◌≡◌, ℕ, ◌≤◌, MatchOption};
+ghost use Rattle.tables.specs.Words.{OBJ};
 ghost use Rattle.tables.specs.Limits.{largest};
 ghost use Rattle.grammar.specs.Certificate.{ReasonWord, reason_cell};
 ghost use Rattle.encoding.specs.Places.{own_terms, word_of, multipliers_of, named_by, after_word};
@@ -48,22 +49,21 @@ impl Word {
     }
 }
 
-// How many terms of its own a row lists, by the cell after its sense.
-#[tactic(auto, unfolding(crate::specs::Places::own_terms))]
-fn own_terms(count: usize) -> usize
-    ensures is { result ≡ own_terms count }
-    ensures small { result ≤ count }
+// How many terms of its own a row lists, by the cell after its sense; none where `OBJ` stands.
+pub(crate) fn own_terms(cell: usize) -> Option<usize>
+    ensures { MatchOption result (cell ≡ OBJ) (λ count. ¬ (cell ≡ OBJ) × (count ≡ cell)) }
 {
-    if count == words::OBJ { 0 } else { count }
+    if cell == words::OBJ { None } else { Some(cell) }
 }
 
 impl<'a> Certificate<'a> {
     // The cell of the word of row r's reason.
+    #[tactic(auto, unfolding(crate::specs::Places::own_terms))]
     fn reason(self, r: usize) -> usize
         ensures { ReasonIs self.entry.index.now self.entry.rows.now r result }
     {
         let entry = tables::entry_at(self.rows, r);
-        entry.cell + 2 + own_terms(tables::cell_at(self.index, entry.cell + 1))
+        entry.cell + 2 + own_terms(tables::cell_at(self.index, entry.cell + 1)).unwrap_or(0)
     }
 
     // The word of row r's reason.
@@ -75,11 +75,12 @@ impl<'a> Certificate<'a> {
     }
 
     // Where the multipliers of row r's reason stand, if it is `lin` or `rnd`.
+    #[tactic(auto, unfolding(crate::specs::Places::own_terms))]
     pub fn multipliers(self, r: usize) -> Pairs
         ensures { result ≡ multipliers_of self.entry.index.now self.entry.rows.now r }
     {
         let entry = tables::entry_at(self.rows, r);
-        let own = own_terms(tables::cell_at(self.index, entry.cell + 1));
+        let own = own_terms(tables::cell_at(self.index, entry.cell + 1)).unwrap_or(0);
         let at = entry.cell + 2 + own + 1;
         let count = tables::cell_at(self.index, at);
         Pairs {

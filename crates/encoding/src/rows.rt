@@ -9,6 +9,7 @@ ghost use Rattle.encoding.specs.Encodes.{HoldsRow};
 ghost use Rattle.encoding.specs.Rows.{RowIs};
 
 use crate::Certificate;
+use crate::reasons::own_terms;
 use arithmetic::Fraction;
 use senses::Sense;
 use tables::{Pairs, words};
@@ -40,15 +41,13 @@ impl<'a> Certificate<'a> {
         requires { (cell ≤ largest) × (number ≤ largest) }
         ensures { result ≡ side_at self.entry.index.now self.entry.header.objective cell number }
     {
-        let count = tables::cell_at(self.index, cell + 1);
-        if count == words::OBJ {
-            self.header.objective
-        } else {
-            Pairs {
-                cell: cell + 1 + 1,
+        match own_terms(tables::cell_at(self.index, cell + 1)) {
+            None => self.header.objective,
+            Some(count) => Pairs {
+                cell: cell + 2,
                 number: number + 1,
                 count,
-            }
+            },
         }
     }
 
