@@ -107,8 +107,8 @@ impl<'a> Certificate<'a> {
         ensures { LastIs self.entry.index.now self.entry.rows.now r result }
     {
         let cell = self.reason(r);
-        let count = tables::cell_at(self.index, cell + 1);
-        let after = self.word(r).cells_after(count);
+        let word = Word::from(tables::cell_at(self.index, cell));
+        let after = word.cells_after(tables::cell_at(self.index, cell + 1));
         let last = tables::cell_from(self.index, cell + 1, after);
         if last == words::NEVER {
             None
