@@ -5,15 +5,18 @@ ghost use Rattle.std.specs.Prelude.{◌≡◌, ◌<◌, ◌≤◌, true};
 ghost use Rattle.integers.specs.Gcd.{gcd as gcd_of};
 ghost use Rattle.integers.specs.Binary.{Odd, odd_of, Narrow, Paired, Stepped, Going};
 
+// Half of what 64 bits can hold: 2^63.
+const HALF: u64 = 1 << 63;
+
 // Two numbers whose greatest common divisor is wanted.
-#[derive(Clone, Copy)]
+#[derive(Clone, Copy, Debug, PartialEq, Eq)]
 pub struct Pair {
     pub x: u64,
     pub y: u64,
 }
 
 // The greatest common divisors of three pairs.
-#[derive(Clone, Copy)]
+#[derive(Clone, Copy, Debug, PartialEq, Eq)]
 pub struct Divisors {
     pub a: u64,
     pub b: u64,
@@ -29,7 +32,7 @@ fn gcd_odd(a: u64, b: u64) -> u64
     let mut x = a;
     let mut y = b;
     while x != y {
-        let t = u64::trailing_zeros(std::num::wrapping_sub_u64(x, y));
+        let t = x.wrapping_sub(y).trailing_zeros();
         if x < y {
             y = (y - x) >> t;
         } else {
@@ -46,11 +49,9 @@ fn odd(p: Pair) -> Pair
     requires { (0 < p.x) × (0 < p.y) }
     ensures { (result.x ≡ odd_of p.x) × (result.y ≡ odd_of p.y) }
 {
-    let x = p.x;
-    let y = p.y;
     Pair {
-        x: x >> u64::trailing_zeros(x),
-        y: y >> u64::trailing_zeros(y),
+        x: p.x >> p.x.trailing_zeros(),
+        y: p.y >> p.y.trailing_zeros(),
     }
 }
 
@@ -59,9 +60,7 @@ fn with_twos(p: Pair, g: u64) -> u64
     requires { (0 < p.x) × (0 < p.y) × (g ≡ gcd_of (odd_of p.x) (odd_of p.y)) }
     ensures { result ≡ gcd_of p.x p.y }
 {
-    let i = u64::trailing_zeros(p.x);
-    let j = u64::trailing_zeros(p.y);
-    if i < j { g << i } else { g << j }
+    g << p.x.trailing_zeros().min(p.y.trailing_zeros())
 }
 
 // The greatest common divisor of any two numbers.
@@ -85,19 +84,15 @@ fn step(p: Pair) -> Pair
     requires { Paired 9223372036854775808 p.x p.y }
     ensures { Stepped 9223372036854775808 p.x p.y result.x result.y }
 {
-    let x = p.x;
-    let y = p.y;
-    let t = u64::trailing_zeros(x + 9223372036854775808 - y);
+    let Pair { x, y } = p;
+    let t = (x + HALF - y).trailing_zeros();
     if x < y {
         Pair {
             x: (y - x) >> t,
             y: x,
         }
     } else {
-        Pair {
-            x: (x - y) >> t,
-            y: y,
-        }
+        Pair { x: (x - y) >> t, y }
     }
 }
 
@@ -137,30 +132,15 @@ fn gcds_narrow(a: Pair, b: Pair, c: Pair) -> Divisors
 fn is_narrow(p: Pair) -> bool
     ensures { result ≡ true → Narrow p.x p.y }
 {
-    let x = p.x;
-    let y = p.y;
-    if x == 0 {
-        return false;
-    }
-    if y == 0 {
-        return false;
-    }
-    if x >= 9223372036854775808 {
-        return false;
-    }
-    y < 9223372036854775808
+    p.x != 0 && p.y != 0 && p.x < HALF && p.y < HALF
 }
 
 // The greatest common divisors of any three pairs: in one loop where all numbers are narrow, else one after the other.
 pub fn gcds(a: Pair, b: Pair, c: Pair) -> Divisors
     ensures { (result.a ≡ gcd_of a.x a.y) × (result.b ≡ gcd_of b.x b.y) × (result.c ≡ gcd_of c.x c.y) }
 {
-    if is_narrow(a) {
-        if is_narrow(b) {
-            if is_narrow(c) {
-                return gcds_narrow(a, b, c);
-            }
-        }
+    if is_narrow(a) && is_narrow(b) && is_narrow(c) {
+        return gcds_narrow(a, b, c);
     }
     Divisors {
         a: gcd(a.x, a.y),

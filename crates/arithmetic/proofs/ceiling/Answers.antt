@@ -1,4 +1,5 @@
 -- `arithmetic::ceiling` meets its contract: a fraction is shaped.
+use Rattle.std.proofs.Common.{rules}
 use mathlib.Core.Path.{◌∙◌}
 use Rattle.integers.proofs.Casts.{back_of}
 use Rattle.arithmetic.specs.Quotient.{ceiling_z}
@@ -8,7 +9,7 @@ use Rattle.arithmetic.proofs.ceiling.Goals as goal
 
 pub returns-then-is_shaped : goal.returns-then-is_shaped
 returns-then-is_shaped c =
-    let told : Told c.args.a = let g = c.well_formed.0.1.1 in (g.0.1, g.1.0.1) in
+    let told : Told c.args.a = search rules in
     λ v.
     let k = c.ceiling_of in
     rounded ceiling_z c.args.a _ told (back_of k.result k.type_inv ∙ k.ensures) (is_fraction_lem c.args.a v)

@@ -1,5 +1,5 @@
 -- `divisors::gcd` meets its contract: what is odd of a and b goes to `gcd_odd`, and the lesser power of two comes back.
-use Rattle.std.proofs.Common.{ℕ, sym, ap, ◌∙◌, ap₂, arith}
+use Rattle.std.proofs.Common.{ℕ, sym, ap, ◌∙◌, arith}
 use Rattle.integers.specs.Gcd.{gcd, gcd-zero}
 use Rattle.integers.specs.Binary.{twos, gcd-zero-left}
 use Rattle.divisors.proofs.gcd.Goals as goal

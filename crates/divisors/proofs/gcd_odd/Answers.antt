@@ -1,26 +1,27 @@
 -- `divisors::gcd_odd` meets its contract. Invariant: x and y are odd, and their greatest common divisor is that of a and b;
 -- x + y falls.
-use Rattle.std.proofs.Common.{◌≡◌, ◌+◌, ◌-◌, ◌^◌, ◌<◌, sym, refl, ap, ◌∙◌, arith, rules}
-use lib.Count.{count_trailing_zeros}
+use Rattle.std.proofs.Common.{◌≡◌, ◌+◌, ◌-◌, ◌^◌, ◌<◌, sym, ap, ◌∙◌, ◌%◌, arith}
 use Rattle.integers.specs.Gcd.{gcd}
-use Rattle.integers.specs.Binary.{OddPair, Twos, turned, step, step_falls, twos_less, twos_greater, gcd-same}
+use Rattle.integers.specs.Binary.{turned, step, twos_less, twos_greater, gcd-same}
 use Rattle.divisors.proofs.gcd_odd.Goals as goal
 
 pub loop-x-preserved-then-x-y : goal.loop-x-preserved-then-x-y
 loop-x-preserved-then-x-y c =
-    let below : c.loop-x.x < c.loop-x.y = omega arith in
-    let left_less : Twos 64 (c.loop-x.y - c.loop-x.x) (count_trailing_zeros 64 c.wrapping_sub_u64-t.result) = let l = c.loop-x in
-    let d = c.wrapping_sub_u64-t in
-    twos_less 64 l.x l.y d.result l.invariant.below_x l.invariant.below_y d.type_inv d.ensures.value below in
-    step 64 _ _ _ _ _ c.loop-x.invariant below left_less
+    let l = c.loop-x in
+    let below : l.x < l.y = omega arith in
+    let d = (l.x + (2 ^ 64 - l.y)) % 2 ^ 64 in
+    let fits : d < 2 ^ 64 = omega arith in
+    let wrapped : (d + l.y) % 2 ^ 64 ≡ l.x = omega (arith, l.invariant.below_x, l.invariant.below_y) in
+    step 64 _ _ _ _ _ l.invariant below (twos_less 64 l.x l.y d l.invariant.below_x l.invariant.below_y fits wrapped below)
 
 pub loop-x-preserved : goal.loop-x-preserved
 loop-x-preserved c =
-    let above : c.loop-x.y < c.loop-x.x = omega arith in
-    let left_greater : Twos 64 (c.loop-x.x - c.loop-x.y) (count_trailing_zeros 64 c.wrapping_sub_u64-t.result) = let l = c.loop-x in
-    let d = c.wrapping_sub_u64-t in
-    twos_greater 64 l.x l.y d.result l.invariant.below_x l.invariant.below_y d.type_inv d.ensures.value above in
-    step 64 _ _ _ _ _ (turned _ _ _ _ _ c.loop-x.invariant) above left_greater
+    let l = c.loop-x in
+    let above : l.y < l.x = omega arith in
+    let d = (l.x + (2 ^ 64 - l.y)) % 2 ^ 64 in
+    let fits : d < 2 ^ 64 = omega arith in
+    let wrapped : (d + l.y) % 2 ^ 64 ≡ l.x = omega (arith, l.invariant.below_x, l.invariant.below_y) in
+    step 64 _ _ _ _ _ (turned _ _ _ _ _ l.invariant) above (twos_greater 64 l.x l.y d l.invariant.below_x l.invariant.below_y fits wrapped above)
 
 pub returns : goal.returns
 returns c =

@@ -1,6 +1,6 @@
 -- `divisors::gcd_odd` meets its contract. Invariant: x and y are odd, and their greatest common divisor is that of a and b;
 -- x + y falls.
-use Rattle.std.proofs.Common.{◌+◌, ◌-◌, ◌^◌}
+use Rattle.std.proofs.Common.{◌+◌, ◌^◌}
 use Rattle.integers.specs.Binary.{OddPair}
 use Rattle.divisors.proofs.gcd_odd.Given as goal
 

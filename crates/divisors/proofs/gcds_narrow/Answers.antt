@@ -1,7 +1,7 @@
 -- `divisors::gcds_narrow` meets its contract. Invariant: each pair is on its way from the numbers that it was made of; with each turn
 -- the sum of x + 2 y over the pairs falls by all y.
-use Rattle.std.proofs.Common.{◌+◌, ◌*◌, ◌≤◌, arith}
-use Rattle.integers.specs.Binary.{Going, going_start, going_on, or_some, or-all}
+use Rattle.std.proofs.Common.{arith}
+use Rattle.integers.specs.Binary.{going_start, or-all}
 use Rattle.divisors.proofs.gcds_narrow.Goals as goal
 
 pub loop-p-init : goal.loop-p-init
@@ -13,16 +13,10 @@ loop-p-init c =
     )
 
 pub reached-requires : goal.reached-requires
-reached-requires c =
-    let at_most_one : let l = c.loop-p in (l.p.y ≤ 1) × (l.q.y ≤ 1) × (l.r.y ≤ 1) = let l = c.loop-p in or-all l.p.y l.q.y l.r.y (omega (arith, c.loop-p-test.false)) in
-    (c.requires.0, c.loop-p.invariant.0, (at_most_one).0)
+reached-requires c = let l = c.loop-p in (c.requires.0, l.invariant.0, (or-all l.p.y l.q.y l.r.y (omega (arith, c.loop-p-test.false))).0)
 
 pub reached-requires-2 : goal.reached-requires-2
-reached-requires-2 c =
-    let at_most_one : let l = c.loop-p in (l.p.y ≤ 1) × (l.q.y ≤ 1) × (l.r.y ≤ 1) = let l = c.loop-p in or-all l.p.y l.q.y l.r.y (omega (arith, c.loop-p-test.false)) in
-    (c.requires.1, c.loop-p.invariant.1, at_most_one.1)
+reached-requires-2 c = let l = c.loop-p in (c.requires.1, l.invariant.1, (or-all l.p.y l.q.y l.r.y (omega (arith, c.loop-p-test.false))).1)
 
 pub reached-requires-3 : goal.reached-requires-3
-reached-requires-3 c =
-    let at_most_one : let l = c.loop-p in (l.p.y ≤ 1) × (l.q.y ≤ 1) × (l.r.y ≤ 1) = let l = c.loop-p in or-all l.p.y l.q.y l.r.y (omega (arith, c.loop-p-test.false)) in
-    (c.requires.2, c.loop-p.invariant.2, at_most_one.2)
+reached-requires-3 c = let l = c.loop-p in (c.requires.2, l.invariant.2, (or-all l.p.y l.q.y l.r.y (omega (arith, c.loop-p-test.false))).2)

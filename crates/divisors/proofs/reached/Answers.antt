@@ -1,5 +1,5 @@
 -- `divisors::reached` meets its contract: y is 0 or 1.
-use Rattle.std.proofs.Common.{arith, rules}
+use Rattle.std.proofs.Common.{arith}
 use Rattle.integers.specs.Binary.{going_zero, going_one}
 use Rattle.divisors.proofs.reached.Goals as goal
 

@@ -1,7 +1,6 @@
 -- `divisors::step` meets its contract, by `stepped_less` and `stepped_greater`.
-use Rattle.std.proofs.Common.{◌+◌, ◌-◌, ◌<◌, refl, arith}
-use lib.Count.{count_trailing_zeros}
-use Rattle.integers.specs.Binary.{stepped_less, stepped_greater, zeros_below, zeros_less, zeros_greater}
+use Rattle.std.proofs.Common.{refl, arith}
+use Rattle.integers.specs.Binary.{stepped_less, stepped_greater, zeros_less, zeros_greater}
 use Rattle.divisors.proofs.step.Goals as goal
 
 pub returns-then-x-y : goal.returns-then-x-y
