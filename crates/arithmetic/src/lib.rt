@@ -168,6 +168,7 @@ pub fn added(a: Fraction, b: Fraction) -> Ratio
     }
 }
 
+// Kept: here and below the hypothesis in each clause, since the functions take any pair of numbers, a fraction or not.
 pub fn product(a: Fraction, b: Fraction) -> Result<Fraction, ArithmeticError>
     ensures { IsFraction a → IsFraction b → arithmetic_says result ≡ product_of a b }
 {

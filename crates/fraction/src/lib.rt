@@ -10,7 +10,7 @@ ghost use Rattle.arithmetic.specs.Quotient.{lowest};
 ghost use Rattle.arithmetic.specs.Fraction.{is_fraction, ratio_of, on_fractions, within as within_of, arithmetic_says, comparison_says, rounding_says};
 ghost use Rattle.arithmetic.specs.Parts.{is_shaped};
 ghost use Rattle.fraction.specs.Promise.{ProductMeant, SumMeant, ReducedMeant, AddProductMeant, ComparisonMeant, FloorMeant, CeilingMeant};
-ghost use Rattle.fraction.specs.Results.{in_lowest_terms, ResultOf};
+ghost use Rattle.fraction.specs.Results.{in_lowest_terms, result_in_lowest_terms, ResultOf};
 
 use arithmetic::Ratio;
 pub use arithmetic::{ArithmeticError, Fraction, NotAFraction};
@@ -99,26 +99,6 @@ fn by_divisor(q: Ratio, g: u64) -> Result<Fraction, ArithmeticError>
     .within()
 }
 
-// The result q of a and b brought to lowest terms, if a and b are in lowest terms: three greatest common divisors in one loop.
-fn lowest_together(a: Fraction, b: Fraction, q: Ratio) -> Result<Fraction, ArithmeticError>
-    requires { 0 < q.bottom }
-    ensures { arithmetic_says result ≡ on_fractions (in_lowest_terms a && in_lowest_terms b) (within_of (lowest (ratio_of q))) }
-{
-    let v = divisors::gcds(
-        parts(a),
-        parts(b),
-        Pair {
-            x: q.top,
-            y: q.bottom,
-        },
-    );
-    if v.a == 1 && v.b == 1 {
-        by_divisor(q, v.c)
-    } else {
-        Err(ArithmeticError::NotAFraction)
-    }
-}
-
 // Whether a pair is in lowest terms, where the common divisors of its parts divide g.
 fn is_lowest_by(g: u64, f: Fraction) -> bool
     requires { (0 < g) × (gcd_of (nat_abs f.num) (nat_abs f.den) ∣ g) }
@@ -127,19 +107,6 @@ fn is_lowest_by(g: u64, f: Fraction) -> bool
     let p = parts(f);
     let h = divisors::gcd(p.x % g, g);
     h == 1 || divisors::gcd(p.y % h, h) == 1
-}
-
-// The result q of a and b brought to lowest terms by g, the greatest common divisor of its parts, if a and b are in lowest
-// terms.
-fn lowest_by(a: Fraction, b: Fraction, q: Ratio, g: u64) -> Result<Fraction, ArithmeticError>
-    requires { ResultOf a b q × (g ≡ gcd_of q.top q.bottom) }
-    ensures { arithmetic_says result ≡ on_fractions (in_lowest_terms a && in_lowest_terms b) (within_of (lowest (ratio_of q))) }
-{
-    if is_lowest_by(g, a) && is_lowest_by(g, b) {
-        by_divisor(q, g)
-    } else {
-        Err(ArithmeticError::NotAFraction)
-    }
 }
 
 // The greatest common divisor of the parts of a result.
@@ -154,47 +121,86 @@ fn divisor_of(q: Ratio) -> u64
     divisors::gcd(q.top % d, d)
 }
 
-// The result q of a and b brought to lowest terms, if a and b are in lowest terms. What divides both parts of an operand
-// divides both parts of the result: a result in lowest terms shows that the operands are.
-fn lowest_result(a: Fraction, b: Fraction, q: Ratio) -> Result<Fraction, ArithmeticError>
-    requires { ResultOf a b q }
-    ensures { arithmetic_says result ≡ on_fractions (in_lowest_terms a && in_lowest_terms b) (within_of (lowest (ratio_of q))) }
-{
-    if q.bottom > WIDE {
-        return lowest_together(a, b, q);
-    }
-    let g = divisor_of(q);
-    if g == 1 {
-        return q.within();
-    }
-    lowest_by(a, b, q, g)
+// A product or a sum: its operands and its exact result.
+#[derive(Clone, Copy)]
+struct Operation {
+    a: Fraction,
+    b: Fraction,
+    ratio: Ratio,
 }
 
-// The result q of a and b brought to lowest terms, if a and b are fractions.
-fn result_of(a: Fraction, b: Fraction, q: Ratio) -> Result<Fraction, ArithmeticError>
-    requires { is_shaped a && is_shaped b ≡ true → ResultOf a b q }
-    ensures { arithmetic_says result ≡ on_fractions (is_fraction a && is_fraction b) (within_of (lowest (ratio_of q))) }
-{
-    if both_shaped(a, b) {
-        lowest_result(a, b, q)
-    } else {
-        Err(ArithmeticError::NotAFraction)
+impl Operation {
+    // The result in lowest terms, if a and b are in lowest terms: three greatest common divisors in one loop.
+    fn lowest_together(self) -> Result<Fraction, ArithmeticError>
+        requires { 0 < self.ratio.bottom }
+        ensures { arithmetic_says result ≡ result_in_lowest_terms self }
+    {
+        let Ratio { top, bottom, .. } = self.ratio;
+        let v = divisors::gcds(parts(self.a), parts(self.b), Pair { x: top, y: bottom });
+        if v.a == 1 && v.b == 1 {
+            by_divisor(self.ratio, v.c)
+        } else {
+            Err(ArithmeticError::NotAFraction)
+        }
+    }
+
+    // The same by g, the greatest common divisor of the result's parts.
+    fn lowest_by(self, g: u64) -> Result<Fraction, ArithmeticError>
+        requires { ResultOf self.a self.b self.ratio × (g ≡ gcd_of self.ratio.top self.ratio.bottom) }
+        ensures { arithmetic_says result ≡ result_in_lowest_terms self }
+    {
+        if is_lowest_by(g, self.a) && is_lowest_by(g, self.b) {
+            by_divisor(self.ratio, g)
+        } else {
+            Err(ArithmeticError::NotAFraction)
+        }
+    }
+
+    // The same by the quicker way. What divides both parts of an operand divides both parts of the result: a result in lowest
+    // terms shows that the operands are.
+    fn lowest(self) -> Result<Fraction, ArithmeticError>
+        requires { ResultOf self.a self.b self.ratio }
+        ensures { arithmetic_says result ≡ result_in_lowest_terms self }
+    {
+        if self.ratio.bottom > WIDE {
+            return self.lowest_together();
+        }
+        let g = divisor_of(self.ratio);
+        if g == 1 {
+            return self.ratio.within();
+        }
+        self.lowest_by(g)
+    }
+
+    // The result in lowest terms, if a and b are fractions.
+    fn of_fractions(self) -> Result<Fraction, ArithmeticError>
+        requires { is_shaped self.a && is_shaped self.b ≡ true → ResultOf self.a self.b self.ratio }
+        ensures { arithmetic_says result ≡ on_fractions (is_fraction self.a && is_fraction self.b) (within_of (lowest (ratio_of self.ratio))) }
+    {
+        if both_shaped(self.a, self.b) {
+            self.lowest()
+        } else {
+            Err(ArithmeticError::NotAFraction)
+        }
     }
 }
 
 pub fn product(a: Fraction, b: Fraction) -> Result<Fraction, ArithmeticError>
     ensures { ProductMeant a b (arithmetic_says result) }
 {
-    result_of(a, b, arithmetic::multiplied(a, b))
+    let ratio = arithmetic::multiplied(a, b);
+    Operation { a, b, ratio }.of_fractions()
 }
 
 pub fn sum(a: Fraction, b: Fraction) -> Result<Fraction, ArithmeticError>
     ensures { SumMeant a b (arithmetic_says result) }
 {
-    result_of(a, b, arithmetic::added(a, b))
+    let ratio = arithmetic::added(a, b);
+    Operation { a, b, ratio }.of_fractions()
 }
 
 // n / d, negated if asked, brought to lowest terms. No fraction has the denominator 0.
+// Kept: the parts of a `Ratio` one by one, as this signature promises them.
 pub fn reduced(negative: bool, n: u64, d: u64) -> Result<Fraction, ArithmeticError>
     ensures { ReducedMeant negative n d (arithmetic_says result) }
 {

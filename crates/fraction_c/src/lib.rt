@@ -51,6 +51,7 @@ fn store_order(answer: Result<Ordering, NotAFraction>, order: &mut i32) -> u8
     store_whole(answer.map(|o| o as i32), order)
 }
 
+// Kept: here and below numbers in place of fractions and results, as C passes and takes them.
 #[unsafe(no_mangle)]
 pub extern "C" fn fraction_product(
     a_num: i32,

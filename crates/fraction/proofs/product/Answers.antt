@@ -11,13 +11,13 @@ use Rattle.fraction.proofs.Tested.{denominators_positive}
 use Rattle.fraction.proofs.Divided.{product_result}
 use Rattle.fraction.proofs.product.Goals as goal
 
-pub result_of-requires : goal.result_of-requires
-result_of-requires c = λ shaped.
+pub of_fractions-requires : goal.of_fractions-requires
+of_fractions-requires c = λ shaped.
     let told_a : Told c.args.a = search rules in
     let told_b : Told c.args.b = search rules in
-    product_result c.args.a c.args.b c.multiplied.result (denominators_positive c.args.a c.args.b told_a told_b shaped) c.multiplied.ensures
+    product_result c.args.a c.args.b c.multiplied-ratio.result (denominators_positive c.args.a c.args.b told_a told_b shaped) c.multiplied-ratio.ensures
 
 pub returns : goal.returns
 returns c =
     meant (product-means c.args.a c.args.b)
-    (c.result_of.ensures ∙ ap (λ (x : Quotient). on_fractions (is_fraction c.args.a && is_fraction c.args.b) (within (lowest x))) c.multiplied.ensures)
+    (c.of_fractions.ensures ∙ ap (λ (x : Quotient). on_fractions (is_fraction c.args.a && is_fraction c.args.b) (within (lowest x))) c.multiplied-ratio.ensures)
