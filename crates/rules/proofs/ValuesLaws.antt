@@ -13,10 +13,12 @@ use Rattle.integers.specs.Gcd.{gcd_right}
 use Rattle.arithmetic.specs.Outcome.{Outcome, gives, refuses}
 use Rattle.arithmetic.specs.Quotient.{Quotient, ◌≈◌, ◌≤Q◌, ◌<Q◌, whole_q}
 use Rattle.arithmetic.proofs.QuotientLaws.{≈_refl, ≈_sym, ≤Q-total, ≤Q_of_≈, ≤Q_of_<, <Q_clash, lowest-terms_unique}
-use Rattle.arithmetic.specs.Fraction.{IsFraction, exact, Order, order_q, product_of, sum_of, compare_of}
+use Rattle.arithmetic.specs.Fraction.{IsFraction, exact, order_q, product_of, sum_of, compare_of}
 use Rattle.arithmetic.specs.Meaning.{Says}
 use Rattle.arithmetic.proofs.Meaning.{product-means, sum_means, order-says, compare_answers, den_is, parts_coprime, exact_positive, exact_unique}
 use Rattle.arithmetic.specs.declared.Fraction.{Fraction}
+use Rattle.std.specs.declared.cmp.Ordering.{Ordering}
+use Rattle.std.specs.declared.cmp.Ordering.TheVariants.{Less, Equal, Greater}
 use Rattle.rules.specs.Tests.{Decides}
 use Rattle.rules.proofs.Tests.{not-true, decides_as, decides_equal, decides_not}
 use Rattle.rules.specs.Result.{refused, Gives}
@@ -81,18 +83,18 @@ decides_not_less x y t d =
 -- ---- comparisons
 
 module _ (a b : Fraction) where
-  decides_compared : (test : Order → Bool) (R : Quotient → Quotient → Type 0)
-      → ((o : Order) → Says (exact a) (exact b) o → Decides (test o) (R (exact a) (exact b)))
+  decides_compared : (test : Ordering → Bool) (R : Quotient → Quotient → Type 0)
+      → ((o : Ordering) → Says (exact a) (exact b) o → Decides (test o) (R (exact a) (exact b)))
       → Decides (passes test (compare_of a b)) (Compared R a b)
   decides_compared test R d = (holds, enough)
     where
-      result : Order
+      result : Ordering
       result = order_q (exact a) (exact b)
 
       holds : passes test (compare_of a b) ≡ true → Compared R a b
       holds = go (compare_of a b) refl
         where
-          go : (o : Outcome Order) → compare_of a b ≡ o → passes test o ≡ true → Compared R a b
+          go : (o : Outcome Ordering) → compare_of a b ≡ o → passes test o ≡ true → Compared R a b
           go (gives o) e t =
               let p = ((compare_answers a b).gives_it o).0 e in
               record { fractions = p.0; compared = (d o p.1).0 t }
@@ -106,18 +108,18 @@ module _ (a b : Fraction) where
   pub decides_at_most : Decides (is_at_most a b) (AtMost a b)
   decides_at_most = decides_compared not_greater ◌≤Q◌ go
     where
-      go : (o : Order) → Says (exact a) (exact b) o → Decides (not_greater o) (exact a ≤Q exact b)
-      go Order.less s = ((λ t. ≤Q_of_< (exact a) (exact b) s), λ h. refl)
-      go Order.equal s = ((λ t. ≤Q_of_≈ (exact a) (exact b) s), λ h. refl)
-      go Order.greater s = ((λ t. not-true t), λ h. absurd (<Q_clash (exact b) (exact a) s h))
+      go : (o : Ordering) → Says (exact a) (exact b) o → Decides (not_greater o) (exact a ≤Q exact b)
+      go Less s = ((λ t. ≤Q_of_< (exact a) (exact b) s), λ h. refl)
+      go Equal s = ((λ t. ≤Q_of_≈ (exact a) (exact b) s), λ h. refl)
+      go Greater s = ((λ t. not-true t), λ h. absurd (<Q_clash (exact b) (exact a) s h))
 
   pub decides_same : Decides (is_same a b) (Same a b)
   decides_same = decides_compared is_equal ◌≈◌ go
     where
-      go : (o : Order) → Says (exact a) (exact b) o → Decides (is_equal o) (exact a ≈ exact b)
-      go Order.less s = ((λ t. not-true t), λ h. absurd (<Q_clash (exact a) (exact b) s (≤Q_of_≈ (exact b) (exact a) (≈_sym (exact a) (exact b) h))))
-      go Order.equal s = ((λ t. s), λ h. refl)
-      go Order.greater s = ((λ t. not-true t), λ h. absurd (<Q_clash (exact b) (exact a) s (≤Q_of_≈ (exact a) (exact b) h)))
+      go : (o : Ordering) → Says (exact a) (exact b) o → Decides (is_equal o) (exact a ≈ exact b)
+      go Less s = ((λ t. not-true t), λ h. absurd (<Q_clash (exact a) (exact b) s (≤Q_of_≈ (exact b) (exact a) (≈_sym (exact a) (exact b) h))))
+      go Equal s = ((λ t. s), λ h. refl)
+      go Greater s = ((λ t. not-true t), λ h. absurd (<Q_clash (exact b) (exact a) s (≤Q_of_≈ (exact a) (exact b) h)))
 
 -- values that are the same are one
 pub same-one : (a b : Fraction) → Same a b → a ≡ b

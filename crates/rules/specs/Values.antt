@@ -5,8 +5,10 @@ use Rattle.std.specs.Prelude.{◌≡◌, Bool, true, false, ℕ, eqb, ℤ, pos, 
 use Rattle.std.specs.Int.Signed.{lt_z}
 use Rattle.arithmetic.specs.Outcome.{Outcome, gives, refuses}
 use Rattle.arithmetic.specs.Quotient.{Quotient, ◌≈◌, ◌≤Q◌, ◌+Q◌, ◌*Q◌, whole_q}
-use Rattle.arithmetic.specs.Fraction.{IsFraction, exact, Order, product_of, sum_of, compare_of}
+use Rattle.arithmetic.specs.Fraction.{IsFraction, exact, product_of, sum_of, compare_of}
 use Rattle.arithmetic.specs.declared.Fraction.{Fraction}
+use Rattle.std.specs.declared.cmp.Ordering.{Ordering}
+use Rattle.std.specs.declared.cmp.Ordering.TheVariants.{Less, Equal, Greater}
 use Rattle.rules.specs.Result.{Result, done, refused}
 
 -- ---- whole values
@@ -58,17 +60,17 @@ AtMost a b = Compared ◌≤Q◌ a b
 abbrev pub Same : Fraction → Fraction → Type 0
 Same a b = Compared ◌≈◌ a b
 
-abbrev pub not_greater : Order → Bool
-not_greater Order.less = true
-not_greater Order.equal = true
-not_greater Order.greater = false
+abbrev pub not_greater : Ordering → Bool
+not_greater Less = true
+not_greater Equal = true
+not_greater Greater = false
 
-abbrev pub is_equal : Order → Bool
-is_equal Order.less = false
-is_equal Order.equal = true
-is_equal Order.greater = false
+abbrev pub is_equal : Ordering → Bool
+is_equal Less = false
+is_equal Equal = true
+is_equal Greater = false
 
-abbrev pub passes : (Order → Bool) → Outcome Order → Bool
+abbrev pub passes : (Ordering → Bool) → Outcome Ordering → Bool
 passes test (gives o) = test o
 passes test (refuses n) = false
 
