@@ -1,14 +1,10 @@
 -- A sum and a product more: what the code's answers say of it.
 -- Assumes nothing.
+use Rattle.std.specs.Prelude.{Result as Answer}
 use mathlib.Core.Path.{◌≡◌, refl}
-use mathlib.Core.Logic.{◌⊎◌, inl, inr}
 use Prim.Native.Nat.{ℕ}
-use native.Mathlib.Omega.{arith}
-use denote.Enum.Declared.{tag_of}
 use Rattle.arithmetic.specs.Fraction.{IsFraction, arithmetic_says}
-use Rattle.arithmetic.specs.contracts.Arithmetic.{the_type}
-use Rattle.arithmetic.specs.declared.Arithmetic.{Arithmetic}
-use Rattle.arithmetic.specs.declared.Arithmetic.TheVariants.{Value, NotAFraction, TooWide}
+use Rattle.arithmetic.specs.declared.ArithmeticError.{ArithmeticError}
 use Rattle.arithmetic.specs.declared.Fraction.{Fraction}
 use Rattle.rules.specs.Result.{Result, done, refused, bind}
 use Rattle.rules.proofs.Result.{gives_bind}
@@ -16,14 +12,8 @@ use Rattle.rules.specs.Values.{within12, product_at, sum_at}
 use Rattle.rules.proofs.ValuesLaws.{gives_product, gives_sum}
 
 -- the answer of a product or a sum, at a place
-abbrev pub says : ℕ → Arithmetic → Result Fraction
+abbrev pub says : ℕ → Answer Fraction ArithmeticError → Result Fraction
 says place a = within12 place (arithmetic_says a)
-
-pub is_refused : (a : Arithmetic) → (tag_of the_type a ≡ 1) ⊎ (tag_of the_type a ≡ 2) → (place : ℕ) → says place a ≡ refused 12 place
-is_refused (Value f) (inl e) place = absurd (omega (arith, e))
-is_refused (Value f) (inr e) place = absurd (omega (arith, e))
-is_refused NotAFraction h place = refl
-is_refused TooWide h place = refl
 
 abbrev pub plus_product : ℕ → Fraction → Fraction → Fraction → Result Fraction
 plus_product place sum a b = bind (product_at place a b) (λ p. sum_at place sum p)

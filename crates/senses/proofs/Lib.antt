@@ -1,7 +1,5 @@
 -- Laws over plain values that the functions' proofs cite, in reading order; those marked `pub` serve the crates above too.
 pub mod Truth
-pub mod Numbers
 pub mod ValuesLaws
 pub mod ArithmeticLaws
-mod SensesLaws
 mod RoundingLaws

@@ -45,7 +45,3 @@ pub rounded_to : (s : Sense) (right : Fraction) (z : ℤ) → rounded_right s ri
 rounded_to s right z q {r} e v =
     let is : r ≡ rounded_right s right = e ∙ rounded_by right z v ∙ sym q in
     (is, subst IsFraction (sym is) (rounded_is s right v))
-
--- an equality is not rounded
-pub not-rounded : (s : Sense) (right : Fraction) → s ≡ equal → IsFraction right → (right ≡ rounded_right s right) × IsFraction right
-not-rounded s right e v = (ap (λ (t : Sense). rounded_right t right) (sym e), v)

@@ -4,10 +4,8 @@
 
 ghost use Rattle.std.specs.Prelude.{◌≡◌};
 ghost use Rattle.arithmetic.specs.Fraction.{IsFraction};
-ghost use Rattle.grammar.specs.Certificate.{sense_cell};
 ghost use Rattle.grammar.specs.Header.{is_maximize};
 ghost use Rattle.grammar.specs.Tree.{Direction};
-ghost use Rattle.rules.specs.Rows.{same_sense};
 ghost use Rattle.rules.specs.Solutions.{holds as holds_of, towards};
 ghost use Rattle.rules.specs.Domination.{fails_at_zero, is_tighter};
 ghost use Rattle.senses.specs.Senses.{sense_is};
@@ -19,28 +17,11 @@ pub mod signs;
 pub mod values;
 
 // `E`, `L`, `G`.
-#[derive(Clone, Copy)]
+#[derive(Clone, Copy, Debug, PartialEq, Eq)]
 pub enum Sense {
     Equal,
     AtMost,
     AtLeast,
-}
-
-// The sense's number in the index table.
-fn sense_cell(sense: Sense) -> u16
-    ensures { result ≡ sense_cell (sense_is sense) }
-{
-    match sense {
-        Sense::Equal => 0,
-        Sense::AtMost => 1,
-        Sense::AtLeast => 2,
-    }
-}
-
-pub(crate) fn same_sense(a: Sense, b: Sense) -> bool
-    ensures { result ≡ same_sense (sense_is a) (sense_is b) }
-{
-    sense_cell(a) == sense_cell(b)
 }
 
 // The sense of being as good: at most under min, at least under max.
@@ -69,11 +50,10 @@ pub fn holds(sense: Sense, left: Fraction, right: Fraction) -> bool
 pub fn fails_at_zero(sense: Sense, right: Fraction) -> bool
     ensures { result ≡ fails_at_zero (sense_is sense) right }
 {
-    let n = right.num;
     match sense {
-        Sense::Equal => n != 0,
-        Sense::AtMost => n < 0,
-        Sense::AtLeast => n > 0,
+        Sense::Equal => right.num != 0,
+        Sense::AtMost => right.num < 0,
+        Sense::AtLeast => right.num > 0,
     }
 }
 
@@ -81,17 +61,5 @@ pub fn fails_at_zero(sense: Sense, right: Fraction) -> bool
 pub fn is_tighter(s: Sense, a: Fraction, t: Sense, b: Fraction) -> bool
     ensures { IsFraction a → IsFraction b → result ≡ is_tighter (sense_is s) a (sense_is t) b }
 {
-    match s {
-        Sense::Equal => holds(t, a, b),
-        Sense::AtMost => match t {
-            Sense::Equal => false,
-            Sense::AtMost => values::is_at_most(a, b),
-            Sense::AtLeast => false,
-        },
-        Sense::AtLeast => match t {
-            Sense::Equal => false,
-            Sense::AtMost => false,
-            Sense::AtLeast => values::is_at_most(b, a),
-        },
-    }
+    (s == Sense::Equal || s == t) && holds(t, a, b)
 }

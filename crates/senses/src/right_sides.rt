@@ -11,26 +11,22 @@ ghost use Rattle.senses.specs.Senses.{sense_is, constraint_by};
 ghost use Rattle.senses.specs.Rounding.{with_rounding};
 
 use crate::{Sense, values};
-use arithmetic::{Fraction, Rounding};
+use arithmetic::{Fraction, NotAFraction};
 
 // "14 if it is an equality, or a coefficient is not whole, or a nonzero one stands at a variable that isn't integer".
 pub fn can_be_rounded(sense: Sense, integral: bool) -> bool
     ensures { (tree : Tree) (c : Constraint) → c.sense ≡ sense_is sense → integral ≡ is_integral tree c → result ≡ can_be_rounded tree c }
 {
-    if crate::same_sense(sense, Sense::Equal) {
-        false
-    } else {
-        integral
-    }
+    sense != Sense::Equal && integral
 }
 
 // A right side that a rounding gives; where there is none, it stays.
-fn with_rounding(right: Fraction, rounding: Rounding) -> Fraction
+fn with_rounding(right: Fraction, rounding: Result<i32, NotAFraction>) -> Fraction
     ensures { result ≡ with_rounding right (rounding_says rounding) }
 {
     match rounding {
-        Rounding::Whole(z) => Fraction { num: z, den: 1 },
-        Rounding::NotAFraction => right,
+        Ok(num) => Fraction { num, den: 1 },
+        Err(NotAFraction) => right,
     }
 }
 
@@ -49,24 +45,12 @@ pub fn rounded_right(sense: Sense, right: Fraction) -> Fraction
 fn are_next(a: Fraction, b: Fraction) -> bool
     ensures { result ≡ is_whole a && (is_whole b && same_z b.num (a.num +ℤ pos 1)) }
 {
-    if values::is_whole(a) {
-        if values::is_whole(b) {
-            let m = a.num;
-            let n = b.num;
-            return (n as i64) == (m as i64) + 1;
-        }
-    }
-    false
+    values::is_whole(a) && values::is_whole(b) && i64::from(b.num) == i64::from(a.num) + 1
 }
 
 // "one is L with whole β, the other G with exactly β + 1 (never 12)".
 pub fn are_adjacent(s: Sense, a: Fraction, t: Sense, b: Fraction) -> bool
     ensures { (f g : ℕ → Value) → result ≡ are_adjacent (constraint_by f s a) (constraint_by g t b) }
 {
-    if crate::same_sense(s, Sense::AtMost) {
-        if crate::same_sense(t, Sense::AtLeast) {
-            return are_next(a, b);
-        }
-    }
-    false
+    s == Sense::AtMost && t == Sense::AtLeast && are_next(a, b)
 }

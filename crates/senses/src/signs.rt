@@ -9,7 +9,7 @@ use crate::Sense;
 use arithmetic::Fraction;
 
 // Whether no multiplier times its row's sign is negative, and whether none is positive.
-#[derive(Clone, Copy)]
+#[derive(Clone, Copy, Debug, PartialEq, Eq)]
 pub struct Signs {
     pub nonnegative: bool,
     pub nonpositive: bool,
@@ -19,11 +19,10 @@ pub struct Signs {
 fn signed_multiplier(sense: Sense, factor: Fraction) -> i64
     ensures { result ≡ signed_number (sense_is sense) factor }
 {
-    let m = factor.num;
-    let n = m as i64;
+    let n = i64::from(factor.num);
     match sense {
         Sense::Equal => 0,
-        Sense::AtMost => 0 - n,
+        Sense::AtMost => -n,
         Sense::AtLeast => n,
     }
 }
@@ -45,8 +44,8 @@ impl Signs {
     {
         let n = signed_multiplier(sense, factor);
         Signs {
-            nonnegative: self.nonnegative & (0 <= n),
-            nonpositive: self.nonpositive & (n <= 0),
+            nonnegative: self.nonnegative && n >= 0,
+            nonpositive: self.nonpositive && n <= 0,
         }
     }
 
@@ -54,21 +53,17 @@ impl Signs {
     pub fn are_suitable(self) -> bool
         ensures { (tree : Tree) (ms : List Multiplier) → SignsAre tree ms self → result ≡ is_suitable tree ms }
     {
-        self.nonnegative | self.nonpositive
+        self.nonnegative || self.nonpositive
     }
 
     // The sense of a suitable combination whose multipliers have these signs.
     pub fn sense(self) -> Sense
         ensures { (tree : Tree) (ms : List Multiplier) → SignsAre tree ms self → sense_is result ≡ sense_of tree ms }
     {
-        if self.nonnegative {
-            if self.nonpositive {
-                Sense::Equal
-            } else {
-                Sense::AtLeast
-            }
-        } else {
-            Sense::AtMost
+        match (self.nonnegative, self.nonpositive) {
+            (true, true) => Sense::Equal,
+            (true, false) => Sense::AtLeast,
+            (false, _) => Sense::AtMost,
         }
     }
 }
