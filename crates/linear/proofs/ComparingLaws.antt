@@ -3,63 +3,26 @@
 use mathlib.Core.Path.{◌≡◌, refl, sym, ◌∙◌, ap, ap₂}
 use mathlib.Core.Bool.{Bool, true, false, not, cond, ◌&&◌}
 use mathlib.Core.List.{List, ◌∷◌}
-use Prim.Native.Nat.{ℕ, suc, ◌+◌, ◌≤◌, ◌<◌, min}
-use native.Mathlib.Numerals.{add-one}
+use Prim.Native.Nat.{ℕ, suc, ◌+◌, ◌≤◌, ◌<◌}
 use native.Mathlib.Omega.{arith}
-use borrow.Author.Tests.{eq-eqb, ne_eqb}
 use lib.Dec.{eqb}
-use lib.IntN.{ℤ, pos}
+use lib.IntN.{ℤ}
 use lib.ListN.{get_or}
-use lib.Signed.{mag}
-use mir.Syntax.{w32}
-use mir.Val.{of_z}
 use Rattle.arithmetic.specs.Fraction.{exact}
 use Rattle.arithmetic.specs.declared.Fraction.{Fraction}
 use Rattle.tables.specs.Cells.{fraction_at}
 use Rattle.tables.specs.Pairs.{pairs_in}
 use Rattle.grammar.specs.Tree.{Term}
 use Rattle.rules.specs.Tests.{all_of, every_below}
-use Rattle.rules.specs.Values.{same_z, is_zero, is_same}
+use Rattle.rules.specs.Values.{is_zero, is_same}
 use Rattle.rules.specs.Rows.{value_in}
 use Rattle.rules.specs.Sentence.Formed.{Formed}
-use Rattle.senses.proofs.Numbers.{is_number}
 use Rattle.senses.proofs.ValuesLaws.{same_parts}
 use Rattle.linear.specs.Lists.{a_term, terms_in}
 use Rattle.linear.specs.ListsLaws.{listed_from, listed_next, listed_none}
-use Rattle.linear.specs.Coefficients.{coefficients_of, AreFractions}
-use Rattle.linear.specs.Comparing.{count_below, is_nonzero, nonzeros_below}
-use Rattle.linear.proofs.CoefficientsLaws.{coefficient_in, coefficient_beyond}
-use Rattle.linear.proofs.Counting.{count_same, count_on, count_end}
+use Rattle.linear.specs.Coefficients.{AreFractions}
+use Rattle.linear.specs.Comparing.{nonzeros_below}
 use Rattle.linear.proofs.ListedLaws.{nonzeros_in, same-listed}
-
--- ---- how many coefficients are not zero
-
-abbrev nonzero_at : List ℤ → ℕ → Bool
-nonzero_at nums v = not (same_z (get_or nums v (pos 0)) (pos 0))
-
--- those of the variables below v
-pub record Counted (nums : List ℤ) (n count v : ℕ) : Type 0 where
-  pub few : v ≤ min n 256
-  pub small : count ≤ v
-  pub same : count ≡ count_below v (nonzero_at nums)
-
-module _ {nums : List ℤ} {n count v : ℕ} (g : Counted nums n count v) (h : v < min n 256) (fits : mag (get_or nums v (pos 0)) < 2147483648) where
-  tested : (t : Bool) → eqb (of_z w32 (get_or nums v (pos 0))) 0 ≡ t → cond (not t) (suc count) count ≡ count_below (v + 1) (nonzero_at nums)
-  tested t e =
-      ap₂ (λ (b : Bool) (c : ℕ). cond (not b) (suc c) c) (sym e ∙ is_number (get_or nums v (pos 0)) 0 fits (omega arith)) g.same
-      ∙ sym (count_on (nonzero_at nums) v)
-
-  pub counted_more : {next : ℕ} → (of_z w32 (get_or nums v (pos 0)) ≡ 0 → ⊥) → next ≡ count + 1 → Counted nums n next (v + 1)
-  counted_more e q = record { few = omega arith; small = omega (arith, g.small); same = q ∙ add-one count ∙ tested false (ne_eqb (of_z w32 (get_or nums v (pos 0))) 0 e) }
-
-  pub counted_over : {next : ℕ} → of_z w32 (get_or nums v (pos 0)) ≡ 0 → next ≡ count → Counted nums n next (v + 1)
-  counted_over e q = record { few = omega arith; small = omega (arith, g.small); same = q ∙ tested true (eq-eqb (of_z w32 (get_or nums v (pos 0))) 0 e) }
-
-pub counted_end : {nums : List ℤ} {n count v : ℕ} → Counted nums n count v → min n 256 ≤ v → (dens : List ℤ) → count ≡ nonzeros_below n (coefficients_of nums dens)
-counted_end {nums} {n} {count} {v} g h dens =
-    g.same
-    ∙ count_same (nonzero_at nums) (λ u. is_nonzero (coefficients_of nums dens u)) v (λ u l. ap is_nonzero (coefficient_in nums dens u (omega (arith, g.few))))
-    ∙ count_end (λ u. is_nonzero (coefficients_of nums dens u)) n v (omega (arith, g.few)) (λ u k l. ap is_nonzero (sym (coefficient_beyond nums dens u (omega arith))))
 
 -- ---- whether each listed term is there, and how many of them are not zero
 
@@ -76,13 +39,16 @@ module _ (variables : List ℕ) (parts : List ℤ) (f : ℕ → Fraction) where
   pub matched : Matched 0 0
   matched = record { small = omega arith; same = refl; count = omega arith }
 
-  module _ {found k : ℕ} (g : Matched found k) (h : k < pairs_in variables parts) {x y : Fraction} (e : x ≡ f (get_or variables k 0)) (q : y ≡ fraction_at parts k)
+  -- term k is v with y
+  module _ {found k : ℕ} (g : Matched found k) (h : k < pairs_in variables parts) {v : ℕ} {x y : Fraction} (p : v ≡ get_or variables k 0) (q : y ≡ fraction_at parts k) (e : x ≡ f v)
       {r : Bool} (s : r ≡ same_parts x y) where
-    abbrev next : listed_from a_term variables parts k ≡ a_term (get_or variables k 0) (fraction_at parts k) ∷ listed_from a_term variables parts (k + 1)
-    next = listed_next a_term variables parts k h
+    abbrev next : listed_from a_term variables parts k ≡ a_term v y ∷ listed_from a_term variables parts (k + 1)
+    next =
+        listed_next a_term variables parts k h
+        ∙ ap₂ (λ (u : ℕ) (z : Fraction). a_term u z ∷ listed_from a_term variables parts (k + 1)) (sym p) (sym q)
 
-    answer : r ≡ same_at (a_term (get_or variables k 0) (fraction_at parts k))
-    answer = s ∙ ap₂ same_parts e q
+    answer : r ≡ same_at (a_term v y)
+    answer = s ∙ ap (λ (z : Fraction). same_parts z y) e
 
     rest : r && all_of same_at (listed_from a_term variables parts (k + 1)) ≡ all_of same_at (terms_in variables parts)
     rest = ap (λ (b : Bool). b && all_of same_at (listed_from a_term variables parts (k + 1))) answer ∙ sym (ap (all_of same_at) next) ∙ g.same
@@ -110,7 +76,7 @@ module _ (variables : List ℕ) (parts : List ℤ) (f : ℕ → Fraction) where
         counts : now + nonzeros_in (listed_from a_term variables parts (k + 1)) ≡ nonzeros_in (terms_in variables parts)
         counts =
             moved z now (nonzeros_in (listed_from a_term variables parts (k + 1))) n
-            ∙ ap (λ (b : Bool). found + cond (not b) (suc (nonzeros_in (listed_from a_term variables parts (k + 1)))) (nonzeros_in (listed_from a_term variables parts (k + 1)))) (told ∙ ap (λ (u : Fraction). is_zero (exact u)) q)
+            ∙ ap (λ (b : Bool). found + cond (not b) (suc (nonzeros_in (listed_from a_term variables parts (k + 1)))) (nonzeros_in (listed_from a_term variables parts (k + 1)))) told
             ∙ ap (λ (ts : List Term). found + nonzeros_in ts) (sym next)
             ∙ g.count
 

@@ -1,6 +1,5 @@
 -- Laws over plain values that the functions' proofs cite, in reading order; those marked `pub` serve the crates above too.
 mod CoefficientsLaws
-mod Refusals
 mod Going
 mod TestsLaws
 mod PointsLaws

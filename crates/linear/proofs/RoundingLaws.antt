@@ -1,10 +1,9 @@
 -- Integral coefficients.
 -- Assumes nothing.
 use mathlib.Core.Path.{◌≡◌, refl, sym, ◌∙◌, ap}
-use mathlib.Core.Bool.{Bool, true}
+use mathlib.Core.Bool.{Bool}
 use mathlib.Core.List.{List}
-use Prim.Native.Nat.{ℕ, ◌≤◌}
-use lib.IntN.{ℤ}
+use Prim.Native.Nat.{ℕ}
 use Rattle.arithmetic.specs.declared.Fraction.{Fraction}
 use Rattle.grammar.specs.Tree.{Term, Tree}
 use Rattle.rules.specs.Tests.{all_of, every_below}
@@ -12,16 +11,12 @@ use Rattle.rules.specs.Rows.{value_in, variables, Constraint}
 use Rattle.rules.specs.Rounding.{is_integer, is_integral}
 use Rattle.rules.specs.Sentence.Formed.{Formed}
 use Rattle.senses.specs.Rounding.{may_stand}
-use Rattle.linear.specs.Coefficients.{coefficients_of, marked, VariablesAre}
-use Rattle.linear.proofs.CoefficientsLaws.{coefficient_beyond}
+use Rattle.linear.specs.Coefficients.{marked, VariablesAre}
 use Rattle.linear.proofs.Counting.{every-same}
 use Rattle.linear.proofs.ListedLaws.{every-listed}
 
 abbrev pub integral_at : (ℕ → Fraction) → List Bool → ℕ → Bool
 integral_at coefficient integers v = may_stand (coefficient v) (marked integers v)
-
-pub integral_beyond : (nums dens : List ℤ) (integers : List Bool) (v : ℕ) → 256 ≤ v → integral_at (coefficients_of nums dens) integers v ≡ true
-integral_beyond nums dens integers v h = ap (λ (f : Fraction). may_stand f (marked integers v)) (sym (coefficient_beyond nums dens v h))
 
 module _ (tree : Tree) (n : ℕ) (integers : List Bool) (are : VariablesAre tree n integers) (c : Constraint) where
   -- of the coefficients of a constraint

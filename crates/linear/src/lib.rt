@@ -5,9 +5,11 @@
 // said of these.
 #![tactic(auto)]
 
+pub mod coefficients;
 pub mod combinations;
 pub mod domination;
 pub mod lists;
 pub mod points;
 pub mod rounding;
+pub mod rows;
 pub mod splits;

@@ -1,89 +1,50 @@
-// Lists of variable and coefficient, and the arrays that have a coefficient for each of 256 variables.
-ghost use Rattle.std.specs.Prelude.{◌≡◌, ◌+◌, ◌*◌, ◌<◌, min, length};
+// Lists of variable and coefficient.
+ghost use Rattle.std.specs.Prelude.{◌≡◌, get_or};
 ghost use Rattle.tables.specs.Limits.{most_variables};
 ghost use Rattle.tables.specs.Cells.{fraction_at};
+ghost use Rattle.tables.specs.Pairs.{pairs_in};
 ghost use Rattle.rules.specs.Rows.{value_in};
-ghost use Rattle.linear.specs.Lists.{terms_in, TermsBelow};
-ghost use Rattle.linear.specs.Coefficients.{coefficients_of, marked};
+ghost use Rattle.linear.specs.Lists.{terms_of, TermsBelow};
+ghost use Rattle.linear.specs.Coefficients.{coefficients_of};
 
+use crate::coefficients::Coefficients;
 use arithmetic::Fraction;
-use tables::limits;
 
-// The coefficient of each variable, or a point's values. A denominator 0 says that nothing is stored yet.
+// Listed terms: their variables, and their coefficients, numerator and denominator by turns.
 #[derive(Clone, Copy)]
-pub struct Coefficients {
-    pub nums: [i32; 256],
-    pub dens: [i32; 256],
+pub struct Terms<'a> {
+    pub variables: &'a [u16],
+    pub parts: &'a [i32],
 }
 
-// Value k of a list that has it.
-pub(crate) fn value_at(parts: &[i32], k: usize) -> Fraction
-    requires { 2 * k + 1 < length parts.now }
-    ensures { result ≡ fraction_at parts.now k }
-{
-    let num = parts[2 * k];
-    let den = parts[2 * k + 1];
-    Fraction { num: num, den: den }
-}
-
-// How many of n variables have their place in the arrays.
-pub(crate) fn in_arrays(n: usize) -> usize
-    ensures { result ≡ min n most_variables }
-{
-    if n < limits::VARIABLES {
-        n
-    } else {
-        limits::VARIABLES
+impl<'a> Terms<'a> {
+    // How many there are.
+    pub(crate) fn count(self) -> usize
+        ensures { result ≡ pairs_in self.entry.variables.now self.entry.parts.now }
+    {
+        tables::pairs_in(self.variables, self.parts)
     }
-}
 
-// The coefficient of variable v.
-pub fn coefficient_at<'a>(nums: &'a [i32; 256], dens: &'a [i32; 256], v: usize) -> Fraction
-    ensures { result ≡ coefficients_of nums.now dens.now v }
-{
-    if limits::VARIABLES <= v {
-        return Fraction { num: 0, den: 1 };
+    // Term k: its variable and its coefficient.
+    pub(crate) fn term(self, k: usize) -> (usize, Fraction)
+        ensures variable { result.0 ≡ get_or self.entry.variables.now k 0 }
+        ensures coefficient { result.1 ≡ fraction_at self.entry.parts.now k }
+    {
+        (
+            tables::cell_at(self.variables, k),
+            tables::value_at(self.parts, k),
+        )
     }
-    let num = nums[v];
-    let den = dens[v];
-    if den == 0 {
-        Fraction { num: num, den: 1 }
-    } else {
-        Fraction { num: num, den: den }
-    }
-}
 
-// Whether an array marks variable v.
-pub(crate) fn is_marked(integers: &[bool; 256], v: usize) -> bool
-    ensures { result ≡ marked integers.now v }
-{
-    if v < limits::VARIABLES {
-        integers[v]
-    } else {
-        false
-    }
-}
-
-// The coefficient that listed terms give each variable: from the last to the first, so that the first of a variable counts.
-pub fn coefficients_of(variables: &[u16], parts: &[i32]) -> Coefficients
-    ensures { let terms = terms_in variables.now parts.now in TermsBelow most_variables terms → coefficients_of result.nums result.dens ≡ value_in terms }
-{
-    let mut nums = [0i32; 256];
-    let mut dens = [0i32; 256];
-    let mut left = tables::pairs_in(variables, parts);
-    while 0 < left {
-        left -= 1;
-        let v = variables[left] as usize;
-        if v < limits::VARIABLES {
-            let f = value_at(parts, left);
-            let num = f.num;
-            let den = f.den;
-            nums[v] = num;
-            dens[v] = den;
+    // The coefficient that they give each variable: from the last to the first, so that the first of a variable counts.
+    pub fn coefficients(self) -> Coefficients
+        ensures { TermsBelow most_variables (terms_of self.entry) → coefficients_of result ≡ value_in (terms_of self.entry) }
+    {
+        let mut coefficients = Coefficients::zero();
+        for k in (0..self.count()).rev() {
+            let (v, f) = self.term(k);
+            coefficients.set(v, f);
         }
-    }
-    Coefficients {
-        nums: nums,
-        dens: dens,
+        coefficients
     }
 }

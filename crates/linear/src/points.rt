@@ -6,34 +6,24 @@ ghost use Rattle.grammar.specs.Tree.{Term};
 ghost use Rattle.rules.specs.Values.{within12};
 ghost use Rattle.rules.specs.Rows.{value_in};
 ghost use Rattle.rules.specs.Solutions.{left_side};
-ghost use Rattle.linear.specs.Lists.{terms_in, TermsBelow};
+ghost use Rattle.linear.specs.Lists.{terms_of, TermsBelow};
 ghost use Rattle.linear.specs.Coefficients.{coefficients_of, AreFractions};
 
-use crate::lists;
-use arithmetic::{Arithmetic, Fraction};
+use crate::coefficients::Coefficients;
+use crate::lists::Terms;
+use arithmetic::{ArithmeticError, Fraction};
 use senses::values;
 
-// The left side of listed terms at a point, which has a value for each variable.
-pub fn left_of<'a>(
-    variables: &[u16],
-    parts: &[i32],
-    nums: &'a [i32; 256],
-    dens: &'a [i32; 256],
-) -> Arithmetic
-    ensures { let terms = terms_in variables.now parts.now in let value = coefficients_of nums.now dens.now in TermsBelow most_variables terms → AreFractions value → (place : ℕ) (point : List Term) → value ≡ value_in point → within12 place (arithmetic_says result) ≡ left_side place point terms }
-{
-    let count = tables::pairs_in(variables, parts);
-    let mut sum = Fraction { num: 0, den: 1 };
-    let mut k = 0;
-    while k < count {
-        let v = variables[k] as usize;
-        let f = lists::value_at(parts, k);
-        let x = lists::coefficient_at(nums, dens, v);
-        let Arithmetic::Value(next) = values::plus_product(sum, f, x) else {
-            return Arithmetic::TooWide;
-        };
-        sum = next;
-        k += 1;
+impl<'a> Terms<'a> {
+    // Their left side at a point, which has a value for each variable.
+    pub fn left_at(self, point: &Coefficients) -> Result<Fraction, ArithmeticError>
+        ensures { let value = coefficients_of point.now in TermsBelow most_variables (terms_of self.entry) → AreFractions value → (place : ℕ) (point : List Term) → value ≡ value_in point → within12 place (arithmetic_says result) ≡ left_side place point (terms_of self.entry) }
+    {
+        let mut sum = Fraction { num: 0, den: 1 };
+        for k in 0..self.count() {
+            let (v, f) = self.term(k);
+            sum = values::plus_product(sum, f, point.at(v))?;
+        }
+        Ok(sum)
     }
-    Arithmetic::Value(sum)
 }

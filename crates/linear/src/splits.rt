@@ -1,41 +1,38 @@
 // Splits: two rows, one of which holds wherever the integer variables are whole.
-ghost use Rattle.std.specs.Prelude.{◌≡◌, ◌≤◌};
+ghost use Rattle.std.specs.Prelude.{◌≡◌, ◌||◌, ◌≤◌};
 ghost use Rattle.tables.specs.Limits.{most_variables};
 ghost use Rattle.grammar.specs.Tree.{Tree};
 ghost use Rattle.rules.specs.Rows.{value_in};
-ghost use Rattle.rules.specs.Splits.{is_split};
+ghost use Rattle.rules.specs.Splits.{are_adjacent, is_split};
 ghost use Rattle.rules.specs.Sentence.Formed.{Formed};
 ghost use Rattle.senses.specs.Senses.{constraint_by};
-ghost use Rattle.linear.specs.Lists.{terms_in};
+ghost use Rattle.linear.specs.Lists.{terms_of};
 ghost use Rattle.linear.specs.Coefficients.{VariablesAre};
 
-use crate::{domination, lists, rounding};
-use arithmetic::Fraction;
-use senses::{Sense, right_sides};
+use crate::rows::Row;
+use senses::right_sides;
 
-// Whether listed terms with sense s and right side a, and others with sense t and right side b, are a split: of every tree that has
-// n variables and these integer ones.
-pub fn is_split(
-    variables: &[u16],
-    parts: &[i32],
-    s: Sense,
-    a: Fraction,
-    variables2: &[u16],
-    parts2: &[i32],
-    t: Sense,
-    b: Fraction,
-    integers: &[bool; 256],
-    n: usize,
-) -> bool
-    ensures { let terms = terms_in variables.now parts.now in let terms2 = terms_in variables2.now parts2.now in (tree : Tree) → VariablesAre tree n integers.now → n ≤ most_variables → Formed n terms → Formed n terms2 → result ≡ is_split tree (constraint_by (value_in terms) s a) (constraint_by (value_in terms2) t b) }
-{
-    if !(right_sides::are_adjacent(s, a, t, b) | right_sides::are_adjacent(t, b, s, a)) {
-        return false;
+impl<'a> Row<'a> {
+    // Whether the right sides are those of a split, this row's the lower one.
+    fn is_below(self, other: Row) -> bool
+        ensures { result ≡ are_adjacent (constraint_by (value_in (terms_of self.entry.terms)) self.entry.sense self.entry.right) (constraint_by (value_in (terms_of other.entry.terms)) other.entry.sense other.entry.right) }
+    {
+        right_sides::are_adjacent(self.sense, self.right, other.sense, other.right)
     }
-    if !rounding::are_integral(variables, parts, integers) {
-        return false;
+
+    // The same, whichever of the two is the lower one.
+    fn is_adjacent(self, other: Row) -> bool
+        ensures { let lower = constraint_by (value_in (terms_of self.entry.terms)) self.entry.sense self.entry.right in let upper = constraint_by (value_in (terms_of other.entry.terms)) other.entry.sense other.entry.right in result ≡ are_adjacent lower upper || are_adjacent upper lower }
+    {
+        self.is_below(other) || other.is_below(self)
     }
-    let c = lists::coefficients_of(variables, parts);
-    let made = domination::compare(variables2, parts2, &c.nums, &c.dens, n);
-    made.same
+
+    // Whether this row and the other are a split: of every tree that has n variables and these integer ones.
+    pub fn is_split(self, other: Row, integers: &[bool; 256], n: usize) -> bool
+        ensures { (tree : Tree) → VariablesAre tree n integers.now → n ≤ most_variables → Formed n (terms_of self.entry.terms) → Formed n (terms_of other.entry.terms) → result ≡ is_split tree (constraint_by (value_in (terms_of self.entry.terms)) self.entry.sense self.entry.right) (constraint_by (value_in (terms_of other.entry.terms)) other.entry.sense other.entry.right) }
+    {
+        self.is_adjacent(other)
+            && self.terms.are_integral(integers)
+            && self.terms.coefficients().compare(other.terms, n).same
+    }
 }

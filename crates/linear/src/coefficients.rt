@@ -1,0 +1,52 @@
+// The coefficients of 256 variables, or a point's values.
+ghost use Rattle.std.specs.Prelude.{◌≡◌, ℕ, ◌<◌};
+ghost use Rattle.arithmetic.specs.Laws.{zero_f};
+ghost use Rattle.tables.specs.Limits.{most_variables};
+ghost use Rattle.rules.specs.Combinations.{with_coefficient};
+ghost use Rattle.linear.specs.Coefficients.{coefficients_of, marked};
+
+use arithmetic::Fraction;
+use tables::limits;
+
+// The coefficient of each variable, 0 / 1 where there is no term.
+#[derive(Clone, Copy)]
+pub struct Coefficients {
+    pub of: [Fraction; 256],
+}
+
+impl Coefficients {
+    // All are 0.
+    pub fn zero() -> Self
+        ensures { (v : ℕ) → coefficients_of result v ≡ zero_f }
+    {
+        Coefficients {
+            of: [Fraction { num: 0, den: 1 }; 256],
+        }
+    }
+
+    // That of variable v.
+    pub fn at(&self, v: usize) -> Fraction
+        ensures { result ≡ coefficients_of self.now v }
+    {
+        self.of
+            .get(v)
+            .copied()
+            .unwrap_or(Fraction { num: 0, den: 1 })
+    }
+
+    // Another one for variable v, if it has its place here.
+    pub(crate) fn set(&mut self, v: usize, f: Fraction)
+        ensures { v < most_variables → coefficients_of self.new ≡ with_coefficient v f (coefficients_of self.old) }
+    {
+        if v < limits::VARIABLES {
+            self.of[v] = f;
+        }
+    }
+}
+
+// Whether an array marks variable v.
+pub(crate) fn is_marked(integers: &[bool; 256], v: usize) -> bool
+    ensures { result ≡ marked integers.now v }
+{
+    v < limits::VARIABLES && integers[v]
+}
