@@ -4,13 +4,14 @@ ghost use Rattle.tables.specs.Limits.{largest};
 ghost use Rattle.grammar.specs.Tree.{Sense as TreeSense, Row, Tree};
 ghost use Rattle.grammar.specs.Certificate.{sense_cell};
 ghost use Rattle.senses.specs.Senses.{sense_is};
-ghost use Rattle.encoding.specs.Places.{side_at, solution_of};
+ghost use Rattle.encoding.specs.Places.{indices_at, values_at, side_at, solution_of};
 ghost use Rattle.encoding.specs.Encodes.{HoldsRow};
 ghost use Rattle.encoding.specs.Rows.{RowIs};
 
 use crate::Certificate;
 use crate::reasons::own_terms;
 use arithmetic::Fraction;
+use linear::lists::Terms;
 use senses::Sense;
 use tables::{Pairs, words};
 
@@ -69,6 +70,17 @@ impl<'a> Certificate<'a> {
             sense: sense_of(tables::cell_at(self.index, entry.cell)),
             right: tables::value_at(self.values, entry.number),
             terms: self.side(entry.cell, entry.number),
+        }
+    }
+
+    // Listed terms: of a row, of a solution, of the objective.
+    pub fn terms(self, listed: Pairs) -> Terms<'a>
+        ensures variables { result.variables.now ≡ indices_at self.entry.index.now listed }
+        ensures parts { result.parts.now ≡ values_at self.entry.values.now listed }
+    {
+        Terms {
+            variables: tables::indices_of(self.index, listed),
+            parts: tables::values_of(self.values, listed),
         }
     }
 
