@@ -4,7 +4,7 @@ use mathlib.Core.Path.{◌≡◌, refl, sym, ◌∙◌, ap, ap₂, subst}
 use mathlib.Core.Bool.{Bool, true, false, not, ◌&&◌}
 use mathlib.Core.List.{List, [], ◌∷◌}
 use mathlib.Core.Option.{none, some}
-use Prim.Native.Nat.{ℕ, suc, ◌+◌, ◌-◌, ◌≤◌, ◌<◌}
+use Prim.Native.Nat.{ℕ, suc, ◌+◌, ◌-◌, ◌≤◌}
 use native.Mathlib.Nat.{add-zero}
 use native.Mathlib.Omega.{arith}
 use lib.IntN.{ℤ}
@@ -125,34 +125,35 @@ module _ {tree : Tree} {h : Header} {index : List ℕ} {values : List ℤ} {rows
   pub no_last : h.rows ≤ h.given → last_row tree ≡ none
   no_last le = none_of _ tree.derivations.derivations (omega (arith, rows_are e))
 
-  -- its index and its derivation
-  the_last : h.given < h.rows → last_row tree ≡ some (h.rows - 1, derivation_at tree (h.rows - 1 - h.given))
-  the_last lt = go tree.derivations.derivations (rows_are e)
-    where
-      go : (ds : List Derivation) → h.rows ≡ h.given + length ds → last_from (length tree.constraints.rows) ds ≡ some (h.rows - 1, get_or ds (h.rows - 1 - h.given) no_derivation)
-      go [] q = absurd (omega arith)
-      go (d ∷ ds) q =
-          let at : length tree.constraints.rows + length ds ≡ h.rows - 1 = omega (arith, given_are e) in
-          let k : length ds ≡ h.rows - 1 - h.given = omega arith in
-          last_of _ d ds ∙ ap₂ (λ (i j : ℕ). some (i, get_or (d ∷ ds) j no_derivation)) at k
+  module _ {last : ℕ} (ge : h.given ≤ last) (at_end : last + 1 ≡ h.rows) where
+    -- its index and its derivation
+    the_last : last_row tree ≡ some (last, derivation_at tree (last - h.given))
+    the_last = go tree.derivations.derivations (rows_are e)
+      where
+        go : (ds : List Derivation) → h.rows ≡ h.given + length ds → last_from (length tree.constraints.rows) ds ≡ some (last, get_or ds (last - h.given) no_derivation)
+        go [] q = absurd (omega (arith, ge, at_end, q))
+        go (d ∷ ds) q =
+            let at : length tree.constraints.rows + length ds ≡ last = omega (arith, at_end, q, given_are e) in
+            let k : length ds ≡ last - h.given = omega (arith, at_end, q) in
+            last_of _ d ds ∙ ap₂ (λ (i j : ℕ). some (i, get_or (d ∷ ds) j no_derivation)) at k
 
-  last_row_lem : h.given < h.rows → (derivation_at tree (h.rows - 1 - h.given)).row ≡ row_at tree (h.rows - 1)
-  last_row_lem lt =
-      let k : h.given + (h.rows - 1 - h.given) ≡ h.rows - 1 = omega arith in
-      sym (ap (row_at tree) (sym k) ∙ ap row_of (derived_at e (h.rows - 1 - h.given) (omega arith)))
+    last_row_lem : (derivation_at tree (last - h.given)).row ≡ row_at tree last
+    last_row_lem =
+        let k : h.given + (last - h.given) ≡ last = omega (arith, ge) in
+        sym (ap (row_at tree) (sym k) ∙ ap row_of (derived_at e (last - h.given) (omega (arith, ge, at_end))))
 
-  pub place_of_last : (word : ℕ) → h.given < h.rows → (row_at tree (h.rows - 1)).name.place ≡ last_place word (last_row tree)
-  place_of_last word lt = sym (ap (last_place word) (the_last lt) ∙ ap (λ r. r.name.place) (last_row_lem lt))
+    pub place_of_last : (word : ℕ) → (row_at tree last).name.place ≡ last_place word (last_row tree)
+    place_of_last word = sym (ap (last_place word) the_last ∙ ap (λ r. r.name.place) last_row_lem)
 
-  pub last-passes : (test : Constraint → Bool) → h.given < h.rows
-      → test (constraint_of tree (row_at tree (h.rows - 1))) && is_empty (assumptions_of tree (h.rows - 1)) ≡ last_passes tree test (last_row tree)
-  last-passes test lt =
-      sym (ap (last_passes tree test) (the_last lt) ∙ ap (λ r. test (constraint_of tree r) && is_empty (assumptions_of tree (h.rows - 1))) (last_row_lem lt))
+    pub last-passes : (test : Constraint → Bool)
+        → test (constraint_of tree (row_at tree last)) && is_empty (assumptions_of tree last) ≡ last_passes tree test (last_row tree)
+    last-passes test =
+        sym (ap (last_passes tree test) the_last ∙ ap (λ r. test (constraint_of tree r) && is_empty (assumptions_of tree last)) last_row_lem)
 
 -- ---- two tests in order
 
 pub both_pass : {s t x y : Bool} → s ≡ x → s ≡ true → t ≡ y → t ≡ x && y
 both_pass {s} {t} {x} {y} e f g = g ∙ ap (λ (z : Bool). z && y) (sym f ∙ e)
 
-pub first_fails : {s x : Bool} (y : Bool) → s ≡ x → s ≡ false → false ≡ x && y
-first_fails y e f = ap (λ (z : Bool). z && y) (sym f ∙ e)
+pub first_fails : {s x : Bool} (y : Bool) → s ≡ x → s ≡ false → s ≡ x && y
+first_fails y e f = f ∙ ap (λ (z : Bool). z && y) (sym f ∙ e)

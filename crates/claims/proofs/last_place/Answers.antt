@@ -5,8 +5,8 @@ use native.Mathlib.Omega.{arith}
 use Rattle.claims.proofs.AskedLaws.{place_of_last}
 use Rattle.claims.proofs.last_place.Goals as goal
 
-pub returns : goal.returns
-returns c =
-    let lt = c.if-header.false in
-    λ tree index values e.
-    c.entry_at-last.ensures.place.is ∙ (e.row _ (omega (arith, lt))).place_is ∙ place_of_last e _ lt
+pub returns-in-Some : goal.returns-in-Some
+returns-in-Some c =
+    let last = c.in-Some.ensures in
+    λ tree e.
+    c.entry_at.ensures.place.is ∙ (e.row _ (omega (arith, last.1))).place_is ∙ place_of_last e last.0 last.1 _

@@ -1,14 +1,10 @@
--- `claims::assumptions::union_of` meets its contract. Invariant: the set so far and those of the rows that are left are the whole
--- union.
--- Assumes nothing.
-use Rattle.claims.proofs.ReasonsLaws.{uniting_start, uniting_on, uniting_end}
+use Rattle.std.proofs.Common.{ap, add-one, arith}
+use Rattle.sets.specs.Sets.{bit}
+use Rattle.claims.proofs.ReasonsLaws.{union_next}
 use Rattle.claims.proofs.assumptions.union_of.Goals as goal
 
-pub loop-k-init : goal.loop-k-init
-loop-k-init c = uniting_start _ _
-
-pub loop-k-preserved : goal.loop-k-preserved
-loop-k-preserved c = uniting_on c.loop-k.invariant c.loop-k-test.true _ c.set_at.ensures c.union-union.ensures
-
-pub returns : goal.returns
-returns c = uniting_end c.loop-k.invariant c.loop-k-test.false
+pub loop-r-preserved : goal.loop-r-preserved
+loop-r-preserved c =
+    λ j.
+    rw add-one
+    (omega (arith, c.union-union.ensures j, ap (λ m. bit m j) c.set_at.ensures, c.loop-r.invariant j, union_next c.args.all.now c.args.named.now c.loop-r.r-index j c.loop-r-test.true))

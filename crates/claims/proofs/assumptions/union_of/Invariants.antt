@@ -1,13 +1,9 @@
--- `claims::assumptions::union_of` meets its contract. Invariant: the set so far and those of the rows that are left are the whole
--- union.
+-- `claims::assumptions::union_of` meets its contract. Invariant: the set has the members of the sets of the rows so far.
 -- Assumes nothing.
-use Prim.Native.Nat.{◌-◌}
-use lib.ListN.{length}
-use Rattle.claims.proofs.ReasonsLaws.{Uniting}
+use Rattle.std.specs.Prelude.{◌≡◌, ℕ, take}
+use Rattle.sets.specs.Sets.{bit}
+use Rattle.claims.specs.Masks.{union_bit}
 use Rattle.claims.proofs.assumptions.union_of.Given as goal
 
-abbrev pub invariant-loop-k : goal.invariant-loop-k
-invariant-loop-k l = Uniting l.all l.named l.union l.k
-
-abbrev pub decreases-loop-k : goal.decreases-loop-k
-decreases-loop-k l = length l.named - l.k
+abbrev pub invariant-loop-r : goal.invariant-loop-r
+invariant-loop-r l = (j : ℕ) → bit l.union j ≡ union_bit l.all (take l.r-index l.named) j

@@ -6,10 +6,10 @@ use Rattle.claims.proofs.AskedLaws.{asked_at, infeas-asked, end_asked}
 use Rattle.claims.proofs.proving.asked_of.Goals as goal
 
 pub returns-then-is_infeas-clause-says : goal.returns-then-is_infeas-clause-says
-returns-then-is_infeas-clause-says c = λ tree rows e. infeas-asked e c.is_infeas.ensures c.if-is_infeas.true
+returns-then-is_infeas-clause-says c = λ tree e. infeas-asked e c.is_infeas.ensures c.if-is_infeas.true
 
-pub returns-in-Infinite-clause-says : goal.returns-in-Infinite-clause-says
-returns-in-Infinite-clause-says c =
-    λ tree rows e.
-    ap (λ r. asked_at tree tree.objective.direction (end_says r)) (sym c.in-Infinite.is)
-    ∙ (end_asked e c.is_infeas.ensures c.if-is_infeas.false (end_says c.end_of.result) c.end_of.ensures).0
+pub returns-in-None-clause-says : goal.returns-in-None-clause-says
+returns-in-None-clause-says c =
+    λ tree e.
+    ap (λ r. asked_at tree tree.objective.direction (end_says r)) (sym c.in-None.is)
+    ∙ (end_asked e c.is_infeas.ensures c.if-is_infeas.false (end_says c.end.result) c.end.ensures).0
