@@ -56,15 +56,13 @@ fn set_of(certificate: Certificate, all: &[u64; 1024], r: usize, assumed: usize)
     let named = certificate.named(r);
     match certificate.word(r) {
         Word::Asm => sets::single(assumed),
-        Word::Uns => {
-            let i1 = tables::cell_at(named, 0);
-            let l1 = tables::cell_at(named, 1);
-            let i2 = tables::cell_at(named, 2);
-            let l2 = tables::cell_at(named, 3);
-            let first = without_row(certificate, all, i1, l1);
-            let second = without_row(certificate, all, i2, l2);
-            sets::union(first, second)
-        }
+        Word::Uns => match named {
+            &[i1, l1, i2, l2] => sets::union(
+                without_row(certificate, all, i1 as usize, l1 as usize),
+                without_row(certificate, all, i2 as usize, l2 as usize),
+            ),
+            _ => 0,
+        },
         Word::Lin | Word::Rnd | Word::Sol => union_of(named, all),
     }
 }
