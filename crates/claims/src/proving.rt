@@ -1,7 +1,7 @@
 // Whether the last derived row proves the claim.
 ghost use Rattle.std.specs.Prelude.{◌≡◌};
 ghost use Rattle.arithmetic.specs.Fraction.{IsFraction};
-ghost use Rattle.grammar.specs.Tree.{Direction, Row, Tree};
+ghost use Rattle.grammar.specs.Tree.{Direction, Row as TreeRow, Tree};
 ghost use Rattle.grammar.specs.Header.{is_maximize};
 ghost use Rattle.rules.specs.Rows.{variables, constraint_of, objective_with};
 ghost use Rattle.rules.specs.Domination.{is_absurd, dominates};
@@ -16,7 +16,7 @@ use crate::{assumptions, last_derived};
 use arithmetic::Fraction;
 use encoding::Certificate;
 use encoding::rows::ListedRow;
-use linear::{domination, lists};
+use linear::rows::Row;
 use senses::Sense;
 
 // What the claim asks of the last row: nothing, to be absurd, or to dominate OBJ with a bound.
@@ -52,35 +52,32 @@ fn sense_asked(maximize: bool) -> Sense
     }
 }
 
-// Whether a row dominates OBJ with this bound: the row's coefficients in arrays, the objective's as listed terms.
+// Whether a row dominates OBJ with this bound: the row's coefficients in an array, the objective's as listed terms.
 fn dominates_objective(certificate: Certificate, row: ListedRow, bound: Fraction) -> bool
-    ensures { (tree : Tree) (x : Row) → Holds tree certificate.entry → RowIs tree certificate.entry.index.now certificate.entry.values.now x row → RowFormed tree x → IsFraction bound → result ≡ dominates (variables tree) (constraint_of tree x) (objective_with tree (against tree.objective.direction) bound) }
+    ensures { (tree : Tree) (x : TreeRow) → Holds tree certificate.entry → RowIs tree certificate.entry.index.now certificate.entry.values.now x row → RowFormed tree x → IsFraction bound → result ≡ dominates (variables tree) (constraint_of tree x) (objective_with tree (against tree.objective.direction) bound) }
 {
-    let terms = row.terms;
     let header = certificate.header;
-    let c = lists::coefficients_of(
-        tables::indices_of(certificate.index, terms),
-        tables::values_of(certificate.values, terms),
-    );
-    let listed = tables::indices_of(certificate.index, header.objective);
-    let parts = tables::values_of(certificate.values, header.objective);
-    let compared = domination::compare(listed, parts, &c.nums, &c.dens, header.variables);
-    let asked = sense_asked(header.maximize);
-    compared.dominates(row.sense, row.right, asked, bound)
+    let coefficients = certificate.terms(row.terms).coefficients();
+    let objective = certificate.terms(header.objective);
+    let compared = coefficients.compare(objective, header.variables);
+    compared.dominates(row.sense, row.right, sense_asked(header.maximize), bound)
 }
 
 // Whether a row is absurd.
 fn is_absurd(certificate: Certificate, row: ListedRow) -> bool
-    ensures { (tree : Tree) (x : Row) → RowIs tree certificate.entry.index.now certificate.entry.values.now x row → RowFormed tree x → result ≡ is_absurd (variables tree) (constraint_of tree x) }
+    ensures { (tree : Tree) (x : TreeRow) → RowIs tree certificate.entry.index.now certificate.entry.values.now x row → RowFormed tree x → result ≡ is_absurd (variables tree) (constraint_of tree x) }
 {
-    let listed = tables::indices_of(certificate.index, row.terms);
-    let parts = tables::values_of(certificate.values, row.terms);
-    domination::is_absurd(listed, parts, row.sense, row.right)
+    let listed = Row {
+        terms: certificate.terms(row.terms),
+        sense: row.sense,
+        right: row.right,
+    };
+    listed.is_absurd()
 }
 
 // Whether a row meets what is asked of the last one.
 fn meets(certificate: Certificate, row: ListedRow, asked: Asked) -> bool
-    ensures { (tree : Tree) (x : Row) → Holds tree certificate.entry → RowIs tree certificate.entry.index.now certificate.entry.values.now x row → RowFormed tree x → AskedFormed asked → result ≡ meets_of tree (asked_says tree asked) (constraint_of tree x) }
+    ensures { (tree : Tree) (x : TreeRow) → Holds tree certificate.entry → RowIs tree certificate.entry.index.now certificate.entry.values.now x row → RowFormed tree x → AskedFormed asked → result ≡ meets_of tree (asked_says tree asked) (constraint_of tree x) }
 {
     match asked {
         Asked::Nothing => true,

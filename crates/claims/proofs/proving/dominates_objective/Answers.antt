@@ -6,5 +6,5 @@ use Rattle.claims.proofs.proving.dominates_objective.Goals as goal
 pub returns : goal.returns
 returns c =
     λ tree x e is formed bound.
-    dominating_row tree is formed c.indices_of.ensures c.values_of.ensures e c.indices_of-listed.ensures c.values_of-parts.ensures _ c.coefficients_of-c.ensures
-    _ c.sense_asked-asked.result _ bound c.sense_asked-asked.ensures c.compare-compared.ensures c.dominates.ensures
+    dominating_row tree is formed c.terms.ensures.variables c.terms.ensures.parts e c.terms-objective.ensures.variables c.terms-objective.ensures.parts
+    _ c.coefficients-coefficients.ensures _ c.sense_asked.result _ bound c.sense_asked.ensures c.compare-compared.ensures c.dominates.ensures
