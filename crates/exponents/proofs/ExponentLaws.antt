@@ -10,7 +10,7 @@ use native.Mathlib.Omega.{arith}
 use borrow.Author.Tests.{ltb-true, ltb-false, lt-ltb, le-ltb, ne_eqb}
 use lib.Dec.{ltb, eqb}
 use lib.IntN.{ℤ, pos, neg_ℤ, nat_abs, ◌+ℤ◌, ◌-ℤ◌, +ℤ_comm, +ℤ_idr, +ℤ_invr, +ℤ-neg_ℤ_cancel, neg_ℤ-+ℤ}
-use lib.ListN.{length, get_or, drop, drop_of_length-le}
+use lib.ListN.{length, get_or, take, drop, drop_of_length-le, length-drop}
 use Rattle.integers.specs.Integers.{ring, cancel, +ℤ_swap}
 use Rattle.integers.specs.Signs.{with_sign, nat_abs-neg, nat_abs-with_sign}
 use Rattle.text.specs.Bytes.{Bytes, is_digit, every, is_numeral, number_after, number_of}
@@ -18,9 +18,10 @@ use Rattle.text.proofs.BytesLaws.{uncons}
 use Rattle.numerals.specs.Spelling.{Sign, unsigned, plus, minus, is_minus, most_power}
 use Rattle.numerals.specs.Reading.{after_letter, exponent_from}
 use Rattle.numerals.proofs.Forms.{by_test}
-use Rattle.exponents.specs.Exponents.{room, is_letter, large, Saturated, NumberRead, ExponentRead, power_says, power_within, opposed}
+use Rattle.exponents.specs.Exponents.{room, is_letter, large, Saturated, NumberRead, ExponentRead, power_says, power_within}
 use Rattle.exponents.specs.declared.Exponent.{Exponent}
-use Rattle.exponents.specs.declared.Exponent.TheVariants as exponent
+use Rattle.std.proofs.lemmas.List.{take_all}
+use Rattle.std.proofs.Common.{Option as Answer, Some, None}
 use Rattle.exponents.specs.declared.Power.{Power}
 use Rattle.exponents.specs.declared.Power.TheVariants as power
 
@@ -48,72 +49,82 @@ saturated_small number digit n h (inr k) = absurd (omega (arith, k.0))
 -- ---- the loop
 
 -- at a place: the number n of the digits so far, and what is still to come
-pub record Counting (token : Bytes) (from at number : ℕ) : Type 0 where
+pub record Counting (digits : Bytes) (at number : ℕ) : Type 0 where
   pub n : ℕ
   pub saturated : Saturated n number
-  pub spells : number_after n (drop at token) ≡ number_of (drop from token)
-  pub numeral : every is_digit (drop at token) ≡ every is_digit (drop from token)
+  pub spells : number_after n (drop at digits) ≡ number_of digits
+  pub numeral : every is_digit (drop at digits) ≡ every is_digit digits
 
-pub counting_starts : (token : Bytes) (from : ℕ) → Counting token from from 0
-counting_starts token from = record { n = 0; saturated = inl refl; spells = refl; numeral = refl }
+pub counting_starts : (digits : Bytes) → Counting digits 0 0
+counting_starts digits = record { n = 0; saturated = inl refl; spells = refl; numeral = refl }
 
-module _ (token : Bytes) (from at number : ℕ) (l : Counting token from at number) where
-  module _ (h : at < length token) where
+no_numeral : (t : Bytes) → every is_digit t ≡ false → is_numeral t ≡ false
+no_numeral [] e = refl
+no_numeral (b ∷ t) e = e
+
+a_numeral : (t : Bytes) → 0 < length t → every is_digit t ≡ true → is_numeral t ≡ true
+a_numeral [] h e = absurd (omega (arith, h))
+a_numeral (b ∷ t) h e = e
+
+module _ (digits : Bytes) (at number : ℕ) (l : Counting digits at number) where
+  module _ (h : at < length digits) where
     abbrev b : ℕ
-    b = get_or token at 0
+    b = get_or digits at 0
 
-    pub counting_goes : is_digit b ≡ true → (r : ℕ) → ((n : ℕ) → Saturated n number → Saturated (n * 10 + (b - 48)) r) → Counting token from (at + 1) r
+    pub counting_goes : is_digit b ≡ true → (r : ℕ) → ((n : ℕ) → Saturated n number → Saturated (n * 10 + (b - 48)) r) → Counting digits (at + 1) r
     counting_goes e r k = record {
       n = l.n * 10 + (b - 48);
       saturated = k l.n l.saturated;
-      spells = ap (number_after l.n) (sym (uncons token at h)) ∙ l.spells;
-      numeral = sym (ap (every is_digit) (uncons token at h) ∙ (rw e)) ∙ l.numeral;
+      spells = ap (number_after l.n) (sym (uncons digits at h)) ∙ l.spells;
+      numeral = sym (ap (every is_digit) (uncons digits at h) ∙ (rw e)) ∙ l.numeral;
     }
 
-    pub counting_stops : is_digit b ≡ false → is_numeral (drop from token) ≡ false
-    counting_stops e =
-        no_numeral (drop from token) (sym l.numeral ∙ ap (every is_digit) (uncons token at h) ∙ (rw e))
-      where
-        no_numeral : (t : Bytes) → every is_digit t ≡ false → is_numeral t ≡ false
-        no_numeral [] e = refl
-        no_numeral (b ∷ t) e = e
+    pub counting_stops : is_digit b ≡ false → is_numeral digits ≡ false
+    counting_stops e = no_numeral digits (sym l.numeral ∙ ap (every is_digit) (uncons digits at h) ∙ (rw e))
 
-  pub counting_ends : length token ≤ at → from < length token → (m : Bool) → NumberRead (drop from token) m (exponent.Of m number)
+  pub counting_ends : length digits ≤ at → 0 < length digits → (m : Bool) → NumberRead digits m (Some (record { minus = m; number = number }))
   counting_ends h k m =
-      let left : drop at token ≡ [] = drop_of_length-le token h in (
-        rw (uncons token from k) (sym (ap (every is_digit) (uncons token from k)) ∙ sym l.numeral ∙ ap (every is_digit) left),
+      let left : drop at digits ≡ [] = drop_of_length-le digits h in (
+        a_numeral digits k (sym l.numeral ∙ ap (every is_digit) left),
         refl,
         subst (λ (k : ℕ). Saturated k number) (sym (ap (number_after l.n) left) ∙ l.spells) l.saturated,
       )
 
-pub no_digits-left : (token : Bytes) (from : ℕ) → length token ≤ from → is_numeral (drop from token) ≡ false
-no_digits-left token from h = rw (drop_of_length-le token h)
-
 -- ---- what stands after the letter
-
-pub nothing_after : (token : Bytes) (from : ℕ) → length token ≤ from → ExponentRead (drop from token) exponent.NotDigits
-nothing_after token from h = λ c. rw (drop_of_length-le token h)
 
 -- a sign, and then digits or not
 module _ (t : Bytes) (s : Sign) (u : Bytes) (e : (c : Bool) → after_letter c t ≡ cond (is_numeral u) (some (record { capital = c; sign = s; digits = u })) none) where
-  pub signed-read : (r : Exponent) → NumberRead u (is_minus s) r → ExponentRead t r
-  signed-read (exponent.Of m number) h = record { sign = s; digits = u; form = λ c. e c ∙ (rw h.0); sign_is = sym h.1; number_is = h.2 }
-  signed-read exponent.NotDigits h = λ c. e c ∙ (rw h)
+  pub signed-read : (r : Answer Exponent) → NumberRead u (is_minus s) r → ExponentRead t r
+  signed-read (Some x) h = record { sign = s; digits = u; form = λ c. e c ∙ (rw h.0); sign_is = sym h.1; number_is = h.2 }
+  signed-read None h = λ c. e c ∙ (rw h)
 
+pub nothing_after : (token : Bytes) (from : ℕ) → length token ≤ from → ExponentRead (drop from token) None
+nothing_after token from h = λ c. rw (drop_of_length-le token h)
+
+-- what stands from a place on, as a slice
+tail_taken : (token : Bytes) (n : ℕ) → take (length token - n) (drop n token) ≡ drop n token
+tail_taken token n = take_all (length token - n) (drop n token) (omega (arith, length-drop n token))
+
+-- the byte after the letter is the sign or the first digit
 module _ (token : Bytes) (from : ℕ) (h : from < length token) where
   abbrev first : ℕ
   first = get_or token from 0
 
-  pub minus_read : first ≡ 45 → (r : Exponent) → NumberRead (drop (from + 1) token) true r → ExponentRead (drop from token) r
-  minus_read p = signed-read (drop from token) minus (drop (from + 1) token) (λ c. ap (after_letter c) (uncons token from h) ∙ (rw p))
+  pub minus_read : first ≡ 45 → (r : Answer Exponent) → NumberRead (take (length token - (from + 1)) (drop (from + 1) token)) true r → ExponentRead (drop from token) r
+  minus_read p r k =
+      signed-read (drop from token) minus (drop (from + 1) token) (λ c. ap (after_letter c) (uncons token from h) ∙ (rw p)) r
+      (subst (λ (u : Bytes). NumberRead u true r) (tail_taken token (from + 1)) k)
 
-  pub plus_read : first ≡ 43 → (r : Exponent) → NumberRead (drop (from + 1) token) false r → ExponentRead (drop from token) r
-  plus_read p = signed-read (drop from token) plus (drop (from + 1) token) (λ c. ap (after_letter c) (uncons token from h) ∙ (rw p))
+  pub plus_read : first ≡ 43 → (r : Answer Exponent) → NumberRead (take (length token - (from + 1)) (drop (from + 1) token)) false r → ExponentRead (drop from token) r
+  plus_read p r k =
+      signed-read (drop from token) plus (drop (from + 1) token) (λ c. ap (after_letter c) (uncons token from h) ∙ (rw p)) r
+      (subst (λ (u : Bytes). NumberRead u false r) (tail_taken token (from + 1)) k)
 
-  pub unsigned_read : (first ≡ 45 → ⊥) → (first ≡ 43 → ⊥) → (r : Exponent) → NumberRead (drop from token) false r → ExponentRead (drop from token) r
-  unsigned_read p q =
+  pub unsigned_read : (first ≡ 45 → ⊥) → (first ≡ 43 → ⊥) → (r : Answer Exponent) → NumberRead (take (length token - from) (drop from token)) false r → ExponentRead (drop from token) r
+  unsigned_read p q r k =
       signed-read (drop from token) unsigned (drop from token)
-      (λ c. ap (after_letter c) (uncons token from h) ∙ (rw (ne_eqb first 43 q, ne_eqb first 45 p)) ∙ ap (λ (u : Bytes). cond (is_numeral u) (some (record { capital = c; sign = unsigned; digits = u })) none) (sym (uncons token from h)))
+      (λ c. ap (after_letter c) (uncons token from h) ∙ (rw (ne_eqb first 43 q, ne_eqb first 45 p)) ∙ ap (λ (u : Bytes). cond (is_numeral u) (some (record { capital = c; sign = unsigned; digits = u })) none) (sym (uncons token from h))) r
+      (subst (λ (u : Bytes). NumberRead u false r) (tail_taken token from) k)
 
 -- ---- powers
 
@@ -123,28 +134,38 @@ power_inside z h = rw (le-ltb most_power (nat_abs z) h)
 pub power_outside_lem : (z : ℤ) → most_power < nat_abs z → none ≡ power_within z
 power_outside_lem z h = rw (lt-ltb most_power (nat_abs z) h)
 
-pub opposed-within : (z : ℤ) → opposed (power_within z) ≡ power_within (neg_ℤ z)
-opposed-within z = rw (nat_abs-neg z) (by_test (ltb most_power (nat_abs z)) (λ e. rw e) (λ e. rw e))
+-- the opposite of a power, or of none
+within_opposite : (z : ℤ) → power_within (neg_ℤ z) ≡ cond (ltb most_power (nat_abs z)) none (some (neg_ℤ z))
+within_opposite z = rw (nat_abs-neg z) refl
+
+pub opposite_none : (z : ℤ) → none ≡ power_within z → none ≡ power_within (neg_ℤ z)
+opposite_none z e = rw (within_opposite z) (by_test (ltb most_power (nat_abs z)) (λ t. rw t) (λ t. absurd (let f : none ≡ some z = rw t at e in let q : ◌≡◌ {A = ℕ} 0 1 = cc in omega arith)))
+
+pub opposite_some : (z p : ℤ) → some p ≡ power_within z → some (neg_ℤ p) ≡ power_within (neg_ℤ z)
+opposite_some z p e =
+    rw (within_opposite z)
+    (by_test (ltb most_power (nat_abs z))
+    (λ t. absurd (let f : some p ≡ none = rw t at e in let q : ◌≡◌ {A = ℕ} 0 1 = cc in omega arith))
+    (λ t. let f : some p ≡ some z = rw t at e in let same : p ≡ z = cc in rw (t, same)))
 
 -- what an equation of powers says of each case
-abbrev pub PowerIs : ℤ → Power → Type 0
-PowerIs z (power.Up k) = (k ≤ most_power) × (z ≡ pos k)
-PowerIs z (power.Down k) = (k ≤ most_power) × (z ≡ neg_ℤ (pos k))
-PowerIs z power.Outside = most_power < nat_abs z
+abbrev pub PowerIs : ℤ → Answer Power → Type 0
+PowerIs z (Some (power.Up k)) = (k ≤ most_power) × (z ≡ pos k)
+PowerIs z (Some (power.Down k)) = (k ≤ most_power) × (z ≡ neg_ℤ (pos k))
+PowerIs z None = most_power < nat_abs z
 
-pub power_is : (z : ℤ) (x : Power) → power_says x ≡ power_within z → PowerIs z x
+pub power_is : (z : ℤ) (x : Answer Power) → power_says x ≡ power_within z → PowerIs z x
 power_is z x e =
     by_test (ltb most_power (nat_abs z)) (λ t. beyond x (e ∙ (rw t)) (ltb-true _ _ t)) (λ t. inside x (e ∙ (rw t)) (ltb-false _ _ t))
   where
-    beyond : (x : Power) → power_says x ≡ none → most_power < nat_abs z → PowerIs z x
-    beyond (power.Up k) e h = absurd (let q : ◌≡◌ {A = ℕ} 0 1 = cc in omega arith)
-    beyond (power.Down k) e h = absurd (let q : ◌≡◌ {A = ℕ} 0 1 = cc in omega arith)
-    beyond power.Outside e h = h
+    beyond : (x : Answer Power) → power_says x ≡ none → most_power < nat_abs z → PowerIs z x
+    beyond (Some p) e h = absurd (let q : ◌≡◌ {A = ℕ} 0 1 = cc in omega arith)
+    beyond None e h = h
 
-    inside : (x : Power) → power_says x ≡ some z → nat_abs z ≤ most_power → PowerIs z x
-    inside (power.Up k) e h = let same : pos k ≡ z = cc in (omega (arith, ap nat_abs same), sym same)
-    inside (power.Down k) e h = let same : neg_ℤ (pos k) ≡ z = cc in (omega (arith, ap nat_abs same, nat_abs-with_sign true k), sym same)
-    inside power.Outside e h = absurd (let q : ◌≡◌ {A = ℕ} 0 1 = cc in omega arith)
+    inside : (x : Answer Power) → power_says x ≡ some z → nat_abs z ≤ most_power → PowerIs z x
+    inside (Some (power.Up k)) e h = let same : pos k ≡ z = cc in (omega (arith, ap nat_abs same), sym same)
+    inside (Some (power.Down k)) e h = let same : neg_ℤ (pos k) ≡ z = cc in (omega (arith, ap nat_abs same, nat_abs-with_sign true k), sym same)
+    inside None e h = absurd (let q : ◌≡◌ {A = ℕ} 0 1 = cc in omega arith)
 
 -- a difference, by the greater of the two
 up_by : (up down : ℕ) → down ≤ up → pos up -ℤ pos down ≡ pos (up - down)

@@ -1,34 +1,28 @@
 // The exponent of a value: `E` or `e`, an optional sign and digits; and the power of ten that it comes to.
 #![tactic(auto)]
 
-ghost use Rattle.std.specs.Prelude.{◌≡◌, ℕ, ◌+◌, ◌*◌, ◌≤◌, pos, ◌+ℤ◌, ◌-ℤ◌, drop};
+ghost use Rattle.std.specs.Prelude.{◌≡◌, ℕ, ◌+◌, ◌*◌, ◌≤◌, pos, neg_ℤ, ◌+ℤ◌, ◌-ℤ◌, drop};
 ghost use Rattle.integers.specs.Signs.{with_sign};
-ghost use Rattle.exponents.specs.Exponents.{is_letter, Saturated, NumberRead, ExponentRead, power_says, power_within, opposed};
+ghost use Rattle.exponents.specs.Exponents.{is_letter, Saturated, NumberRead, ExponentRead, power_value, power_says, power_within};
+
 // The greatest power of ten, up or down.
 const MOST_POWER: usize = 18;
 
 // Beyond this, a number with one digit more is greater than any slice is long.
 const LARGE: usize = 1152921504606846976;
 
-// The greatest number of 64 bits.
-const GREATEST: usize = 18446744073709551615;
-
 // `E` or `e`.
 pub fn is_letter(b: u8) -> bool
     ensures { result ≡ is_letter b }
 {
-    if b == b'E' {
-        return true;
-    }
-    b == b'e'
+    matches!(b, b'E' | b'e')
 }
 
-// An exponent: whether it is negative, and its number, or one that is as good where that is greater than any slice is long. Or
-// what stands there is no exponent.
-#[derive(Clone, Copy)]
-pub enum Exponent {
-    Of(bool, usize),
-    NotDigits,
+// An exponent: whether it is negative, and its number, or one that is as good where that is greater than any slice is long.
+#[derive(Clone, Copy, Debug, PartialEq, Eq)]
+pub struct Exponent {
+    pub minus: bool,
+    pub number: usize,
 }
 
 // A number with one digit more. A large one is not worked out.
@@ -36,109 +30,93 @@ fn with_digit(number: usize, digit: usize) -> usize
     requires { digit ≤ 9 }
     ensures { (n : ℕ) → Saturated n number → Saturated (n * 10 + digit) result }
 {
-    if number >= LARGE {
-        return GREATEST;
+    if number < LARGE {
+        number * 10 + digit
+    } else {
+        usize::MAX
     }
-    number * 10 + digit
 }
 
-// The digits from the first to the token's end, with the sign before them.
-fn read_digits(minus: bool, token: &[u8], first: usize) -> Exponent
-    ensures { NumberRead (drop first token.now) minus result }
+// The digits as an exponent's number, with the sign before them. None where there is none, or another byte.
+fn read_digits(minus: bool, digits: &[u8]) -> Option<Exponent>
+    ensures { NumberRead digits.now minus result }
 {
-    if token.len() <= first {
-        return Exponent::NotDigits;
+    if digits.is_empty() {
+        return None;
     }
     let mut number = 0;
-    let mut at = first;
-    while at < token.len() {
-        let b = token[at];
-        if text::is_digit(b) {
-            number = with_digit(number, (b - 48) as usize);
-            at += 1;
-        } else {
-            return Exponent::NotDigits;
+    for b in digits {
+        if !text::is_digit(*b) {
+            return None;
         }
+        number = with_digit(number, (*b - b'0') as usize);
     }
-    Exponent::Of(minus, number)
+    Some(Exponent { minus, number })
 }
 
-// What stands after the letter: an optional sign and digits, to the token's end.
-pub fn read_exponent(token: &[u8], from: usize) -> Exponent
+// What stands after the letter: an optional sign and digits, to the token's end. None where something else does.
+#[tactic(auto, using(crate::proofs::ExponentLaws::minus_read, crate::proofs::ExponentLaws::plus_read, crate::proofs::ExponentLaws::unsigned_read))]
+pub fn read_exponent(token: &[u8], from: usize) -> Option<Exponent>
     ensures { ExponentRead (drop from token.now) result }
 {
-    if token.len() <= from {
-        return Exponent::NotDigits;
+    match *token.get(from)? {
+        b'-' => read_digits(true, &token[from + 1..]),
+        b'+' => read_digits(false, &token[from + 1..]),
+        _ => read_digits(false, &token[from..]),
     }
-    let b = token[from];
-    if b == b'-' {
-        return read_digits(true, token, from + 1);
-    }
-    if b == b'+' {
-        return read_digits(false, token, from + 1);
-    }
-    read_digits(false, token, from)
 }
 
-// A power of ten: up, down, or outside -18 to 18.
-#[derive(Clone, Copy)]
+// A power of ten, up or down.
+#[derive(Clone, Copy, Debug, PartialEq, Eq)]
 pub enum Power {
     Up(usize),
     Down(usize),
-    Outside,
 }
 
-fn opposite(x: Power) -> Power
-    ensures { power_says result ≡ opposed (power_says x) }
-{
-    match x {
-        Power::Up(k) => Power::Down(k),
-        Power::Down(k) => Power::Up(k),
-        Power::Outside => Power::Outside,
+impl Power {
+    fn opposite(self) -> Power
+        ensures { power_value result ≡ neg_ℤ (power_value self) }
+    {
+        match self {
+            Power::Up(k) => Power::Down(k),
+            Power::Down(k) => Power::Up(k),
+        }
     }
 }
 
-// up - down.
-fn difference(up: usize, down: usize) -> Power
+// up - down. None where it is outside -18 to 18.
+fn difference(up: usize, down: usize) -> Option<Power>
     ensures { power_says result ≡ power_within (pos up -ℤ pos down) }
 {
-    if down <= up {
-        let k = up - down;
-        if k > MOST_POWER {
-            return Power::Outside;
-        }
-        return Power::Up(k);
+    if up.abs_diff(down) > MOST_POWER {
+        return None;
     }
-    let k = down - up;
-    if k > MOST_POWER {
-        return Power::Outside;
-    }
-    Power::Down(k)
+    Some(if down <= up {
+        Power::Up(up - down)
+    } else {
+        Power::Down(down - up)
+    })
 }
 
 // An exponent's number, plus `more`, less `less`.
-fn balance(number: usize, more: usize, less: usize) -> Power
+fn balance(number: usize, more: usize, less: usize) -> Option<Power>
     ensures { power_says result ≡ power_within (pos (number + more) -ℤ pos less) }
 {
     if more < less {
-        return difference(number, less - more);
+        difference(number, less - more)
+    } else {
+        difference(number.checked_add(more - less)?, 0)
     }
-    let k = more - less;
-    if number > MOST_POWER {
-        return Power::Outside;
-    }
-    if k > MOST_POWER {
-        return Power::Outside;
-    }
-    difference(number + k, 0)
 }
 
-// The power of ten: the exponent, less the digits after the point, plus the trailing zeros that were dropped.
-pub fn power_of(minus: bool, number: usize, places: usize, zeros: usize) -> Power
-    ensures { power_says result ≡ power_within (with_sign minus number -ℤ pos places +ℤ pos zeros) }
+// The power of ten: the exponent, less the digits after the point, plus the trailing zeros that were dropped. None where it is
+// outside -18 to 18.
+pub fn power_of(exponent: Exponent, places: usize, zeros: usize) -> Option<Power>
+    ensures { power_says result ≡ power_within (with_sign exponent.minus exponent.number -ℤ pos places +ℤ pos zeros) }
 {
+    let Exponent { minus, number } = exponent;
     if minus {
-        opposite(balance(number, places, zeros))
+        Some(balance(number, places, zeros)?.opposite())
     } else {
         balance(number, zeros, places)
     }

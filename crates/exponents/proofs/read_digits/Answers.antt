@@ -1,22 +1,19 @@
--- `exponents::read_digits` meets its contract. The loop's invariant: `number` stands for the digits before `at`, and
--- with those from `at` on they spell the number of all (`Counting`). The measure is what is left of the token.
+-- `exponents::read_digits` meets its contract. The loop's invariant: `number` stands for the digits so far, and with those that
+-- are left they spell the number of all (`Counting`).
 -- Assumes nothing.
 use mathlib.Core.Path.{sym, ◌∙◌}
 use native.Mathlib.Omega.{arith}
 use Rattle.numerals.proofs.Numbers.{digit_bounds}
-use Rattle.exponents.proofs.ExponentLaws.{counting_goes, counting_ends}
+use Rattle.exponents.proofs.ExponentLaws.{counting_goes}
 use Rattle.exponents.proofs.read_digits.Goals as goal
 
 -- the byte is a digit
 pub overflow_sub-b : goal.overflow_sub-b
-overflow_sub-b c = omega (arith, (digit_bounds _ (sym c.is_digit.ensures ∙ c.if-is_digit.true)).0)
+overflow_sub-b c = omega (arith, (digit_bounds _ (sym c.is_digit.ensures ∙ c.if-not-is_digit.false)).0)
 
 pub with_digit-number-requires : goal.with_digit-number-requires
-with_digit-number-requires c = omega (arith, (digit_bounds _ (sym c.is_digit.ensures ∙ c.if-is_digit.true)).1)
+with_digit-number-requires c = omega (arith, (digit_bounds _ (sym c.is_digit.ensures ∙ c.if-not-is_digit.false)).1)
 
-pub loop-at-preserved : goal.loop-at-preserved
-loop-at-preserved c =
-    counting_goes _ _ _ _ c.loop-at.invariant c.loop-at-test.true (sym c.is_digit.ensures ∙ c.if-is_digit.true) _ c.with_digit-number.ensures
-
-pub returns : goal.returns
-returns c = counting_ends _ _ _ _ c.loop-at.invariant c.loop-at-test.false c.if-token-first.false _
+pub loop-b-preserved : goal.loop-b-preserved
+loop-b-preserved c =
+    counting_goes _ _ _ c.loop-b.invariant c.loop-b-test.true (sym c.is_digit.ensures ∙ c.if-not-is_digit.false) _ c.with_digit-number.ensures
