@@ -6,15 +6,14 @@ use Rattle.text.specs.Bytes.{Bytes, is_numeral}
 use Rattle.numerals.specs.Reading.{digits_of}
 use Rattle.value.specs.Runs.{Stands, Ended}
 use Rattle.value.specs.declared.Digits.{Digits}
-use Rattle.value.specs.declared.Part.{Part}
-use Rattle.value.specs.declared.Part.TheVariants as part
+use Rattle.std.proofs.Common.{Option, Some, None}
 use Rattle.numerals.proofs.Numbers.{digits_numeral}
 
-module _ (t : Bytes) (d : Digits) (p : Part) (h : Ended t d p) where
-  pub part_misspelled : p ≡ part.NotDigits → is_numeral t ≡ false
+module _ (t : Bytes) (d : Digits) (p : Option Digits) (h : Ended t d p) where
+  pub part_misspelled : p ≡ None → is_numeral t ≡ false
   part_misspelled e = subst (Ended t d) e h
 
-  module _ (r : Digits) (e : p ≡ part.Digits r) where
+  module _ (r : Digits) (e : p ≡ Some r) where
     ends : (is_numeral t ≡ true) × (r ≡ d)
     ends = subst (Ended t d) e h
 

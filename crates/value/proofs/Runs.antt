@@ -8,7 +8,7 @@ use Prim.Native.Nat.{ℕ, ◌+◌, ◌-◌, ◌*◌, ◌^◌, ◌≤◌, ◌<◌
 use native.Mathlib.Nat.{add-zero}
 use native.Mathlib.Omega.{arith}
 use lib.ListN.{length, get_or, drop, length-drop, drop_of_length-le}
-use lib.Seq.{append_snoc, drop-drop}
+use lib.Seq.{append_snoc, drop-drop, slice, take-length}
 use Rattle.text.specs.Bytes.{Bytes, is_digit, every, leading}
 use Rattle.text.proofs.BytesLaws.{clash, both, every_append, leading_le, leading-every, uncons}
 use Rattle.numerals.specs.Spelling.{is_zero, drop_leading}
@@ -82,6 +82,10 @@ stops_past token at h = rw (drop_of_length-le token h) tt
 -- no more digits than were read
 pub significant_short : (v : Bytes) (d : Digits) → Significant v d → d.count + d.zeros ≤ length v
 significant_short v d g = omega (arith, g.grown.counts, g.grown.trails, length-drop (leading is_zero v) v)
+
+-- what is left of a token from a place on
+pub part_left : (from : ℕ) (token : Bytes) → slice from (length token) token ≡ drop from token
+part_left from token = ap (drop from) (take-length token)
 
 -- leading zeros passed over, and the digits after them read
 module _ (token : Bytes) (from first : ℕ) (f : first ≡ from + leading is_zero (drop from token)) (r : Run) (h : RunRead (drop first token) first no_digits r) where

@@ -2,11 +2,12 @@
 -- Assumes nothing.
 use Rattle.arithmetic.specs.Outcome.{Outcome, gives, refuses}
 use Rattle.arithmetic.specs.declared.Fraction.{Fraction}
-use Rattle.value.specs.declared.ValueAnswer.{ValueAnswer}
-use Rattle.value.specs.declared.ValueAnswer.TheVariants.{Value, NotAValue, TooWide}
+use Rattle.std.specs.Prelude.{Result, Ok, Err}
+use Rattle.value.specs.declared.ValueError.{ValueError}
+use Rattle.value.specs.declared.ValueError.TheVariants.{NotAValue, TooWide}
 
 -- 01's number and value for each case of the answer
-abbrev pub value_says : ValueAnswer → Outcome Fraction
-value_says (Value f) = gives f
-value_says NotAValue = refuses 4
-value_says TooWide = refuses 7
+abbrev pub value_says : Result Fraction ValueError → Outcome Fraction
+value_says (Ok f) = gives f
+value_says (Err NotAValue) = refuses 4
+value_says (Err TooWide) = refuses 7

@@ -1,6 +1,7 @@
 -- What the code's digits stand for: the terms of its private contracts. No public contract cites this file.
 -- Assumes nothing.
 use Rattle.std.specs.Prelude.{◌≡◌, Bool, true, false, cond, [], ◌∷◌, ◌++◌, ℕ, ◌+◌, ◌*◌, ◌^◌, ◌≤◌, ◌<◌, ltb, eqb, ℤ, nat_abs, length}
+use Rattle.std.specs.Prelude.{Option as Answer, Some, None, Result, Ok, Err}
 use Rattle.std.proofs.Math.Option.{Option}
 use Rattle.integers.specs.Signs.{with_sign}
 use Rattle.text.specs.Bytes.{Bytes, is_digit, every, leading, is_numeral, number_after, number_of}
@@ -13,10 +14,9 @@ use Rattle.numerals.specs.Reading.{digits_of, after_letter, exponent_from, scale
 use Rattle.exponents.specs.Exponents.{room}
 use Rattle.value.specs.declared.Digits.{Digits}
 use Rattle.value.specs.declared.Run.{Run}
-use Rattle.value.specs.declared.Part.{Part}
-use Rattle.value.specs.declared.Part.TheVariants as part
 use Rattle.value.specs.declared.Ratio.{Ratio}
-use Rattle.value.specs.declared.Ratio.TheVariants as ratio
+use Rattle.value.specs.declared.ValueError.{ValueError}
+use Rattle.value.specs.declared.ValueError.TheVariants.{NotAValue, TooWide}
 
 -- d has at most n digits, and its number is below the power of ten of those that count: so nothing overflows
 pub record Bounded (n : ℕ) (d : Digits) : Type 0 where
@@ -81,22 +81,21 @@ pub record WholeRead (t : Bytes) (from : ℕ) (r : Run) : Type 0 where
   pub bounded : Bounded r.next r.digits
 
 -- the digits d of the run that t starts with, where they are all of t; or t is no numeral
-abbrev pub Ended : Bytes → Digits → Part → Type 0
-Ended t d (part.Digits e) = (is_numeral t ≡ true) × (e ≡ d)
-Ended t d part.NotDigits = is_numeral t ≡ false
+abbrev pub Ended : Bytes → Digits → Answer Digits → Type 0
+Ended t d (Some e) = (is_numeral t ≡ true) × (e ≡ d)
+Ended t d None = is_numeral t ≡ false
 
 -- ---- outcomes
 
 -- the outcome of a ratio with a sign; its denominator is positive
-abbrev pub ratio_says : Bool → Ratio → Outcome Fraction
-ratio_says s (ratio.Of p q) = narrowed (lowest (over (with_sign s p) q))
-ratio_says s ratio.NotAValue = refuses 4
-ratio_says s ratio.TooWide = refuses 7
+abbrev pub ratio_says : Bool → Result Ratio ValueError → Outcome Fraction
+ratio_says s (Ok r) = narrowed (lowest (over (with_sign s r.top) r.bottom))
+ratio_says s (Err NotAValue) = refuses 4
+ratio_says s (Err TooWide) = refuses 7
 
-abbrev pub PositiveRatio : Ratio → Type 0
-PositiveRatio (ratio.Of p q) = 0 < q
-PositiveRatio ratio.NotAValue = Unit {0}
-PositiveRatio ratio.TooWide = Unit {0}
+abbrev pub PositiveRatio : Result Ratio ValueError → Type 0
+PositiveRatio (Ok r) = 0 < r.bottom
+PositiveRatio (Err e) = Unit {0}
 
 -- the outcome of a whole number that d is
 abbrev pub whole_outcome : Bool → Digits → Outcome Fraction
@@ -107,22 +106,22 @@ abbrev pub scaled_outcome : Bool → ℕ → ℤ → Outcome Fraction
 scaled_outcome s n x = cond (ltb most_power (nat_abs x)) (refuses 7) (narrowed (lowest (over (with_sign s (top_scaled n x)) (bottom_scaled x))))
 
 -- r is the ratio of the form with the whole part that d is and this tail, with either sign
-abbrev pub WithTail : Digits → Option Tail → Ratio → Type 0
+abbrev pub WithTail : Digits → Option Tail → Result Ratio ValueError → Type 0
 WithTail d tail r = (s : Bool) (w : Bytes) → Stands w d → ratio_says s r ≡ outcome_of (with_tail s w tail)
 
 -- the same, where d is the whole part without the zeros on both sides
-abbrev pub WithSignificant : Digits → Option Tail → Ratio → Type 0
+abbrev pub WithSignificant : Digits → Option Tail → Result Ratio ValueError → Type 0
 WithSignificant d tail r = (s : Bool) (w : Bytes) → Significant w d → ratio_says s r ≡ outcome_of (with_tail s w tail)
 
 -- the same, with these digits after the point if there is one, and then an exponent where the rest is one
-abbrev pub Extended : Digits → Bytes → Bytes → Ratio → Type 0
+abbrev pub Extended : Digits → Bytes → Bytes → Result Ratio ValueError → Type 0
 Extended d decimals rest r =
     (s : Bool) (w : Bytes) (after : Option Bytes) → Significant w d → places after ≡ decimals
     → ratio_says s r ≡ outcome_of (with_tail s w (scaled_by after (exponent_from rest)))
 
 -- the same, where d are all the digits without the zeros on both sides, so many of them after the point, and t is what stands
 -- after the letter
-abbrev pub Scaled : Digits → ℕ → Bytes → Ratio → Type 0
+abbrev pub Scaled : Digits → ℕ → Bytes → Result Ratio ValueError → Type 0
 Scaled d p t r =
     (s : Bool) (w : Bytes) (after : Option Bytes) (capital : Bool) → Significant (w ++ places after) d → length (places after) ≡ p
     → ratio_says s r ≡ outcome_of (with_tail s w (scaled_by after (after_letter capital t)))

@@ -1,4 +1,4 @@
--- `value::read_run` meets its contract. The loop's invariant: the bytes from `from` up to `at` are digits, and `digits` is
+-- `value::read_run` meets its contract. The loop's invariant: the bytes from `from` up to `next` are digits, and `digits` is
 -- `start` with them after it (`Reading`). The measure is what is left of the token.
 -- Assumes nothing.
 use mathlib.Core.Path.{sym, ◌∙◌}
@@ -8,22 +8,22 @@ use Rattle.value.proofs.Runs.{reading_goes, reading_ends, stops_there, stops_pas
 use Rattle.value.proofs.read_run.Goals as goal
 
 -- the byte is a digit
-pub overflow_sub-b : goal.overflow_sub-b
-overflow_sub-b c = omega (arith, (digit_bounds _ (sym c.is_digit.ensures ∙ c.if-is_digit.true)).0)
+pub overflow_sub-token : goal.overflow_sub-token
+overflow_sub-token c = omega (arith, (digit_bounds _ (sym c.is_digit.ensures ∙ c.if-is_digit.true)).0)
 
 pub with-digits-requires : goal.with-digits-requires
 with-digits-requires c =
-    let h = c.loop-at.invariant.bounded in
+    let h = c.loop-next.invariant.bounded in
     (omega (arith, h.short), h.small, omega (arith, (digit_bounds _ (sym c.is_digit.ensures ∙ c.if-is_digit.true)).1))
 
-pub loop-at-preserved : goal.loop-at-preserved
-loop-at-preserved c =
-    reading_goes _ _ _ _ _ c.loop-at.invariant c.with-digits.result c.loop-at-test.true (sym c.is_digit.ensures ∙ c.if-is_digit.true) c.with-digits.ensures
+pub loop-next-preserved : goal.loop-next-preserved
+loop-next-preserved c =
+    reading_goes _ _ _ _ _ c.loop-next.invariant c.with-digits.result c.loop-next-test.true (sym c.is_digit.ensures ∙ c.if-is_digit.true) c.with-digits.ensures
 
 pub returns-else-is_digit : goal.returns-else-is_digit
 returns-else-is_digit c =
-    reading_ends _ _ _ _ _ c.loop-at.invariant
-    (stops_there _ _ c.loop-at-test.true (sym c.is_digit.ensures ∙ c.if-is_digit.false))
+    reading_ends _ _ _ _ _ c.loop-next.invariant
+    (stops_there _ _ c.loop-next-test.true (sym c.is_digit.ensures ∙ c.if-is_digit.false))
 
-pub returns : goal.returns
-returns c = reading_ends _ _ _ _ _ c.loop-at.invariant (stops_past _ _ c.loop-at-test.false)
+pub returns-after-loop-next : goal.returns-after-loop-next
+returns-after-loop-next c = reading_ends _ _ _ _ _ c.loop-next.invariant (stops_past _ _ c.loop-next-test.false)

@@ -1,6 +1,7 @@
 -- `value::read_value` meets its contract: what it answers is `read_value` of the token, of which `value_read` proves the rest.
 -- Assumes nothing.
 use mathlib.Core.Path.{◌≡◌, ◌∙◌, sym, subst}
+use borrow.Author.Rules.{rules}
 use Rattle.text.specs.Bytes.{Bytes}
 use Rattle.arithmetic.specs.Outcome.{Outcome}
 use Rattle.arithmetic.specs.declared.Fraction.{Fraction}
@@ -13,11 +14,11 @@ use Rattle.value.proofs.read_value.Goals as goal
 as_read : (token : Bytes) (o : Outcome Fraction) → read_value token ≡ o → ValueRead token o
 as_read token o e = subst (ValueRead token) e (value_read token)
 
-pub returns-then-token-eq0 : goal.returns-then-token-eq0
-returns-then-token-eq0 c = as_read _ _ (read-empty _ c.if-token-eq0.true)
+pub returns-in_default : goal.returns-in_default
+returns-in_default c = as_read _ _ (read-empty _ (search rules))
 
-pub returns-then-token-eq45 : goal.returns-then-token-eq45
-returns-then-token-eq45 c = as_read _ _ (read_minus _ c.if-token-eq0.false c.if-token-eq45.true ∙ sym c.read_unsigned.ensures)
+pub returns-then-first-eq45 : goal.returns-then-first-eq45
+returns-then-first-eq45 c = as_read _ _ (read_minus _ (search rules) (search rules) ∙ sym c.read_unsigned.ensures)
 
-pub returns-else-token-eq45 : goal.returns-else-token-eq45
-returns-else-token-eq45 c = as_read _ _ (read_plain _ c.if-token-eq0.false c.if-token-eq45.false ∙ sym c.read_unsigned-else-token-eq45.ensures)
+pub returns-else-first-eq45 : goal.returns-else-first-eq45
+returns-else-first-eq45 c = as_read _ _ (read_plain _ (search rules) (search rules) ∙ sym c.read_unsigned-else-first-eq45.ensures)

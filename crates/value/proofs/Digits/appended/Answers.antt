@@ -8,13 +8,13 @@ pub returns-then-count-gt-MOST_DIGITS : goal.returns-then-count-gt-MOST_DIGITS
 returns-then-count-gt-MOST_DIGITS c = appended_wide _ _ _ c.if-count-gt-MOST_DIGITS.true
 
 -- the number with the digits after it fits
-pub overflow_mul-result : goal.overflow_mul-result
-overflow_mul-result c =
+pub overflow_mul-number : goal.overflow_mul-number
+overflow_mul-number c =
     let h = appended_fits c.args.self _ _ _ c.power_of_ten.ensures c.if-count-gt-MOST_DIGITS.false c.requires.1 c.requires.2 in
     record { fits = omega (arith, h) }
 
-pub overflow_add-result : goal.overflow_add-result
-overflow_add-result c =
+pub overflow_add-number : goal.overflow_add-number
+overflow_add-number c =
     record { fits = appended_fits c.args.self _ _ _ c.power_of_ten.ensures c.if-count-gt-MOST_DIGITS.false c.requires.1 c.requires.2 }
 
 pub returns : goal.returns
