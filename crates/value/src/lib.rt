@@ -316,15 +316,12 @@ fn reduce(negative: bool, ratio: Ratio) -> Result<Fraction, ValueError>
     ensures { value_says result ≡ narrowed (lowest (over (with_sign negative ratio.top) ratio.bottom)) }
 {
     let Ratio { top, bottom } = ratio;
-    let Ok(f) = (arithmetic::Ratio {
+    let exact = arithmetic::Ratio {
         negative,
         top,
         bottom,
-    })
-    .reduced() else {
-        return Err(ValueError::TooWide);
     };
-    Ok(f)
+    exact.reduced().or(Err(ValueError::TooWide))
 }
 
 // The value that stands after the optional minus.
