@@ -4,191 +4,118 @@
 
 use std::io;
 use std::io::Print;
-use text::Scan;
-
-fn number(out: &impl Print, n: usize) -> io::Result<()> {
-    out.print(n)
-}
-
-fn numbered(out: &impl Print, b: u8) -> io::Result<()> {
-    out.write_all(b"<")?;
-    out.print(b)?;
-    out.write_all(b">")
-}
-
-fn byte(out: &impl Print, b: u8) -> io::Result<()> {
-    if b < 33 {
-        return numbered(out, b);
-    }
-    if 126 < b {
-        return numbered(out, b);
-    }
-    let one = [b];
-    out.write_all(&one)
-}
-
-fn bytes(out: &impl Print, part: &[u8]) -> io::Result<()> {
-    let mut i = 0;
-    while i < part.len() {
-        byte(out, part[i])?;
-        i += 1;
-    }
-    Ok(())
-}
+use text::Token;
 
 fn quoted(out: &impl Print, part: &[u8]) -> io::Result<()> {
-    out.write_all(b"\"")?;
-    bytes(out, part)?;
-    out.write_all(b"\"\n")
+    print!(out; "\"")?;
+    for b in part {
+        if b.is_ascii_graphic() {
+            out.write_all(&[*b])?;
+        } else {
+            print!(out; "<{b}>")?;
+        }
+    }
+    println!(out; "\"")
 }
 
-fn line(out: &impl Print, text: &[u8], place: usize) -> io::Result<()> {
-    out.write_all(b" line ")?;
-    number(out, text::line_of(text, place))
-}
-
-// Writes the token from .. to, its line and its bytes.
-fn token(out: &impl Print, text: &[u8], from: usize, to: usize) -> io::Result<()> {
-    out.write_all(b"  ")?;
-    number(out, from)?;
-    out.write_all(b"..")?;
-    number(out, to)?;
-    line(out, text, from)?;
-    out.write_all(b": ")?;
+// Writes a token, its line and its bytes.
+fn token(out: &impl Print, text: &[u8], token: Token) -> io::Result<()> {
+    let Token { from, to } = token;
+    print!(out; "  {from}..{to} line {}: ", text::line_of(text, from))?;
     quoted(out, text::show_token(text, from))
 }
 
 // Writes the tokens from `at` on.
 fn tokens_from(out: &impl Print, text: &[u8], at: usize) -> io::Result<()> {
     let mut next = at;
-    while next <= text.len() {
-        match text::next_token(text, next) {
-            Scan::Token(from, to) => {
-                token(out, text, from, to)?;
-                next = to + 1;
-            }
-            Scan::End => return Ok(()),
-        }
+    while let Some(found) = text::next_token(text, next) {
+        token(out, text, found)?;
+        next = found.to;
     }
     Ok(())
 }
 
 // Writes where the comments of a text end, its tokens, and the line of its end.
-fn tokens(out: &impl Print, title: &[u8], text: &[u8]) -> io::Result<()> {
+fn tokens(out: &impl Print, title: &str, text: &[u8]) -> io::Result<()> {
     let start = text::comments_end(text);
-    out.write_all(title)?;
-    out.write_all(b": comments end at ")?;
-    number(out, start)?;
-    out.write_all(b"\n")?;
+    println!(out; "{title}: comments end at {start}")?;
     tokens_from(out, text, start)?;
-    out.write_all(b"  end")?;
-    line(out, text, text.len())?;
-    out.write_all(b"\n")
+    println!(out; "  end line {}", text::line_of(text, text.len()))
 }
 
 fn separators(out: &impl Print) -> io::Result<()> {
-    tokens(out, b"space, tab, CR, LF", b"a b\tc\rd\ne")?;
+    tokens(out, "space, tab, CR, LF", b"a b\tc\rd\ne")?;
     tokens(
         out,
-        b"bytes of a token: 0, 11, 12, 160",
+        "bytes of a token: 0, 11, 12, 160",
         b"a\x00b c\x0bd e\x0cf g\xa0h",
     )?;
-    tokens(out, b"the empty text", b"")?;
-    tokens(out, b"separators only", b" \t\r\n\n ")?;
-    tokens(out, b"gaps before, between and after", b"  VER \t 1.0\n\n")?;
-    tokens(out, b"line breaks carry no meaning", b"VER\n1.0")?;
-    tokens(out, b"braces that touch a word", b"{lin { lin }")?;
-    tokens(out, b"one byte", b"x")?;
-    tokens(out, b"any other bytes", b"\x01\x7f\xff -1/2")
+    tokens(out, "the empty text", b"")?;
+    tokens(out, "separators only", b" \t\r\n\n ")?;
+    tokens(out, "gaps before, between and after", b"  VER \t 1.0\n\n")?;
+    tokens(out, "line breaks carry no meaning", b"VER\n1.0")?;
+    tokens(out, "braces that touch a word", b"{lin { lin }")?;
+    tokens(out, "one byte", b"x")?;
+    tokens(out, "any other bytes", b"\x01\x7f\xff -1/2")
 }
 
 fn comments(out: &impl Print) -> io::Result<()> {
-    tokens(out, b"two comments", b"% one\n%two\nVER 1.0\n")?;
-    tokens(out, b"a comment alone", b"%")?;
-    tokens(out, b"a comment without LF", b"% VER 1.0")?;
-    tokens(out, b"a second comment without LF", b"% VER\n%1.0")?;
-    tokens(out, b"CR ends no comment", b"% a\rVER\n1.0")?;
-    tokens(out, b"lines that end in CR LF", b"% a\r\nVER\r\n1.0\r\n")?;
-    tokens(out, b"any bytes in a comment", b"%\x00\xff%\t\nVER")?;
-    tokens(out, b"an empty comment, a blank line", b"%\n\nVER")?;
-    tokens(out, b"a blank line before %", b"\n% VER")?;
-    tokens(out, b"a space before %", b" %VER\n1.0")?;
-    tokens(out, b"% after the first token", b"VER\n% 1.0\n")?;
-    tokens(out, b"% within a line", b"% a\nVER %1.0 %")
-}
-
-fn line_at(out: &impl Print, text: &[u8], place: usize) -> io::Result<()> {
-    out.write_all(b"  at ")?;
-    number(out, place)?;
-    line(out, text, place)?;
-    out.write_all(b"\n")
+    tokens(out, "two comments", b"% one\n%two\nVER 1.0\n")?;
+    tokens(out, "a comment alone", b"%")?;
+    tokens(out, "a comment without LF", b"% VER 1.0")?;
+    tokens(out, "a second comment without LF", b"% VER\n%1.0")?;
+    tokens(out, "CR ends no comment", b"% a\rVER\n1.0")?;
+    tokens(out, "lines that end in CR LF", b"% a\r\nVER\r\n1.0\r\n")?;
+    tokens(out, "any bytes in a comment", b"%\x00\xff%\t\nVER")?;
+    tokens(out, "an empty comment, a blank line", b"%\n\nVER")?;
+    tokens(out, "a blank line before %", b"\n% VER")?;
+    tokens(out, "a space before %", b" %VER\n1.0")?;
+    tokens(out, "% after the first token", b"VER\n% 1.0\n")?;
+    tokens(out, "% within a line", b"% a\nVER %1.0 %")
 }
 
 fn lines(out: &impl Print) -> io::Result<()> {
     let text = b"%\na\r\n\nb\n";
-    out.write_all(b"lines\n")?;
-    line_at(out, text, 0)?;
-    line_at(out, text, 1)?;
-    line_at(out, text, 2)?;
-    line_at(out, text, 4)?;
-    line_at(out, text, 5)?;
-    line_at(out, text, 6)?;
-    line_at(out, text, 7)?;
-    line_at(out, text, 8)?;
-    line_at(out, text, 9)?;
-    line_at(out, text, 18446744073709551615)
+    println!(out; "lines")?;
+    for place in [0, 1, 2, 4, 5, 6, 7, 8, 9, usize::MAX] {
+        println!(out; "  at {place} line {}", text::line_of(text, place))?;
+    }
+    Ok(())
 }
 
-fn word(out: &impl Print, text: &[u8], from: usize, to: usize, word: &[u8]) -> io::Result<()> {
-    out.write_all(b"  ")?;
-    number(out, from)?;
-    out.write_all(b"..")?;
-    number(out, to)?;
-    if text::is_word(text, from, to, word) {
-        out.write_all(b" is ")?;
-    } else {
-        out.write_all(b" is not ")?;
-    }
-    quoted(out, word)
+fn word(out: &impl Print, from: usize, to: usize, word: &str) -> io::Result<()> {
+    let is_word = text::is_word(b"VER Ver infeas", from, to, word.as_bytes());
+    println!(out;
+        "  {from}..{to} {} \"{word}\"",
+        if is_word { "is" } else { "is not" }
+    )
 }
 
 fn words(out: &impl Print) -> io::Result<()> {
-    let text = b"VER Ver infeas";
-    out.write_all(b"words\n")?;
-    word(out, text, 0, 3, b"VER")?;
-    word(out, text, 4, 7, b"VER")?;
-    word(out, text, 0, 3, b"VE")?;
-    word(out, text, 0, 3, b"VERS")?;
-    word(out, text, 8, 14, b"infeas")?;
-    word(out, text, 8, 11, b"inf")?;
-    word(out, text, 8, 99, b"infeas")?;
-    word(out, text, 3, 0, b"VER")?;
-    word(out, text, 3, 0, b"")?;
-    word(out, text, 99, 102, b"")
+    println!(out; "words")?;
+    word(out, 0, 3, "VER")?;
+    word(out, 4, 7, "VER")?;
+    word(out, 0, 3, "VE")?;
+    word(out, 0, 3, "VERS")?;
+    word(out, 8, 14, "infeas")?;
+    word(out, 8, 11, "inf")?;
+    word(out, 8, 99, "infeas")?;
+    word(out, 3, 0, "VER")?;
+    word(out, 3, 0, "")?;
+    word(out, 99, 102, "")
 }
 
 fn shown(out: &impl Print, text: &[u8], place: usize) -> io::Result<()> {
-    out.write_all(b"  at ")?;
-    number(out, place)?;
-    out.write_all(b": ")?;
+    print!(out; "  at {place}: ")?;
     quoted(out, text::show_token(text, place))
 }
 
 fn shows(out: &impl Print) -> io::Result<()> {
-    let text = b"% c\nVER\t1.0";
-    out.write_all(b"shown\n")?;
-    shown(out, text, 0)?;
-    shown(out, text, 1)?;
-    shown(out, text, 2)?;
-    shown(out, text, 3)?;
-    shown(out, text, 4)?;
-    shown(out, text, 5)?;
-    shown(out, text, 7)?;
-    shown(out, text, 8)?;
-    shown(out, text, 10)?;
-    shown(out, text, 11)?;
-    shown(out, text, 12)?;
-    shown(out, text, 18446744073709551615)
+    println!(out; "shown")?;
+    for place in [0, 1, 2, 3, 4, 5, 7, 8, 10, 11, 12, usize::MAX] {
+        shown(out, b"% c\nVER\t1.0", place)?;
+    }
+    Ok(())
 }
 
 fn main(rt: HostRuntime) -> io::Result<()> {
@@ -197,6 +124,6 @@ fn main(rt: HostRuntime) -> io::Result<()> {
     lines(&rt)?;
     words(&rt)?;
     shows(&rt)?;
-    rt.write_all(b"shown in the empty text\n")?;
+    println!(rt; "shown in the empty text")?;
     shown(&rt, b"", 0)
 }
