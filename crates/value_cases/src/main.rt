@@ -2,62 +2,26 @@
 // each: the token or its description, then the fraction or the refusal. Then works out powers of ten, a line each.
 #![tactic(auto)]
 
-ghost use Rattle.std.specs.Prelude.{◌≤◌, length, IfOk};
-
-use arithmetic::Fraction;
+use case_texts::read_full;
 use std::io;
-use std::io::{Print, Read};
-use value::ValueAnswer;
-
-fn put(out: &impl Print, bytes: &[u8]) -> io::Result<()> {
-    out.write_all(bytes)
-}
-
-// A number in decimal, with its sign.
-fn number(out: &impl Print, x: i32) -> io::Result<()> {
-    out.print(x)
-}
-
-fn taken(out: &impl Print, f: Fraction) -> io::Result<()> {
-    put(out, b" is ")?;
-    number(out, f.num)?;
-    put(out, b"/")?;
-    number(out, f.den)?;
-    put(out, b"\n")
-}
+use std::io::Print;
+use value::ValueError;
 
 // Reads a token, and writes its line under a name.
 fn case(out: &impl Print, name: &[u8], token: &[u8]) -> io::Result<()> {
-    put(out, name)?;
+    out.write_all(name)?;
     match value::read_value(token) {
-        ValueAnswer::Value(f) => taken(out, f),
-        ValueAnswer::NotAValue => put(out, b" refused 4\n"),
-        ValueAnswer::TooWide => put(out, b" refused 7\n"),
+        Ok(f) => println!(out; " is {f}"),
+        Err(ValueError::NotAValue) => println!(out; " refused 4"),
+        Err(ValueError::TooWide) => println!(out; " refused 7"),
     }
-}
-
-// The place of the next LF from a place on, or the text's end.
-fn line_end(text: &[u8], from: usize) -> usize
-    requires { from ≤ length text.now }
-    ensures { (from ≤ result) × (result ≤ length text.now) }
-{
-    let mut at = from;
-    while at < text.len() {
-        if text[at] == b'\n' {
-            return at;
-        }
-        at += 1;
-    }
-    at
 }
 
 // Each line of a text as a token.
 fn lines(out: &impl Print, text: &[u8]) -> io::Result<()> {
-    let mut at = 0;
-    while at < text.len() {
-        let end = line_end(text, at);
-        case(out, &text[at..end], &text[at..end])?;
-        at = end + 1;
+    for line in text.split_inclusive(|b| *b == b'\n') {
+        let token = line.strip_suffix(b"\n").unwrap_or(line);
+        case(out, token, token)?;
     }
     Ok(())
 }
@@ -113,10 +77,7 @@ fn long_quotient(out: &impl Print) -> io::Result<()> {
 fn ended(mut t: [u8; 4001], sign: u8, digits: &[u8; 4]) -> [u8; 4001] {
     t[3995] = b'E';
     t[3996] = sign;
-    t[3997] = digits[0];
-    t[3998] = digits[1];
-    t[3999] = digits[2];
-    t[4000] = digits[3];
+    t[3997..].copy_from_slice(digits);
     t
 }
 
@@ -235,45 +196,18 @@ fn long_exponent(out: &impl Print) -> io::Result<()> {
 
 // The power of ten for a number, under that number.
 fn power(out: &impl Print, k: usize) -> io::Result<()> {
-    put(out, b"10 to the power ")?;
-    out.print(k)?;
-    put(out, b" is ")?;
-    out.print(powers::power_of_ten(k))?;
-    put(out, b"\n")
+    println!(out; "10 to the power {k} is {}", powers::power_of_ten(k))
 }
 
-// The powers for 0 to 20.
-fn first_powers(out: &impl Print) -> io::Result<()> {
-    let mut k = 0;
-    while k <= 20 {
+// The powers for 0 to 20, and for numbers further above: those whose low bits are 0 or 18, and the greatest.
+fn all_powers(out: &impl Print) -> io::Result<()> {
+    for k in 0..=20 {
         power(out, k)?;
-        k += 1;
+    }
+    for k in [256, 274, 4294967296, 4294967314, usize::MAX] {
+        power(out, k)?;
     }
     Ok(())
-}
-
-// The powers for numbers further above: those whose low bits are 0 or 18, and the greatest.
-fn powers_above(out: &impl Print) -> io::Result<()> {
-    power(out, 256)?;
-    power(out, 274)?;
-    power(out, 4294967296)?;
-    power(out, 4294967314)?;
-    power(out, 18446744073709551615)
-}
-
-// Reads until the room is full or the input ends, and answers how many bytes came, at the start of the room.
-fn read_full<R: Read>(input: &mut R, room: &mut [u8]) -> io::Result<usize>
-    ensures { IfOk result (λ n. n ≤ length room.new) }
-{
-    let mut done = 0;
-    while done < room.len() {
-        let more = input.read(&mut room[done..])?;
-        if more == 0 {
-            break;
-        }
-        done += more;
-    }
-    Ok(done)
 }
 
 fn main(rt: HostRuntime) -> io::Result<()> {
@@ -287,6 +221,5 @@ fn main(rt: HostRuntime) -> io::Result<()> {
     long_significand(&rt)?;
     long_decimals(&rt)?;
     long_exponent(&rt)?;
-    first_powers(&rt)?;
-    powers_above(&rt)
+    all_powers(&rt)
 }
