@@ -3,40 +3,33 @@
 use mathlib.Core.Path.{◌≡◌, refl, sym, ap, ◌∙◌, subst}
 use mathlib.Core.Bool.{Bool, true, false, not, cond}
 use mathlib.Core.List.{List, [], ◌∷◌}
+use Rattle.std.specs.Prelude.{Some, None, Result, Ok, Err}
 use Prim.Native.Nat.{ℕ, suc, ◌≤◌, ◌<◌, min}
 use native.Mathlib.Omega.{arith}
 use borrow.Author.Tests.{lt-ltb, le-ltb, ltb-true}
 use lib.Dec.{ltb, eqb}
 use lib.ListN.{length}
-use lib.Seq.{length-slice}
 use Rattle.text.specs.Bytes.{Bytes, same, every, is_digit, is_numeral, number_of}
 use Rattle.text.proofs.BytesLaws.{clash}
 use Rattle.text.specs.Tokens.{Token}
 use Rattle.arithmetic.specs.Outcome.{Outcome, gives, refuses}
-use Rattle.arithmetic.specs.declared.Fraction.{Fraction}
-use Rattle.numerals.specs.Reading.{read_value}
-use Rattle.value.specs.Promise.{value_says}
-use Rattle.value.specs.declared.ValueAnswer.{ValueAnswer}
-use Rattle.grammar.specs.Format.{Or, instead, given, Symbol, number, placed, row_name, value, or}
+use Rattle.std.proofs.Math.Option.{some}
+use Rattle.grammar.specs.Format.{Word, choice, Or, instead, given, Symbol, number, placed, row_name, or}
 use Rattle.grammar.specs.Reading.{is_among, is_name}
-use Rattle.grammar.specs.Reading.{unless, or_else, decode}
+use Rattle.grammar.specs.Reading.{meaning_of, chosen, unless, or_else, decode}
 use Rattle.grammar.specs.Layout.{symbol_values, symbol_marks}
 use Rattle.grammar.specs.declared.Refusal.{Refusal}
 use Rattle.grammar.specs.declared.Refusal.TheVariants.{WrongKind, OutOfRange, UsedBefore}
 use Rattle.tables.specs.Limits.{largest}
 use Rattle.symbol_reader.specs.Follows.{cell_or}
-use Rattle.symbol_reader.specs.Leaves.{numeral_of, bound_of, token_at, or_cell, Said, Means}
-use Rattle.symbol_reader.specs.declared.tokens.Span.{Span}
-use Rattle.symbol_reader.specs.declared.tokens.Meaning.{Meaning}
-use Rattle.symbol_reader.specs.declared.tokens.Meaning.TheVariants as meaning
-use Rattle.symbol_reader.specs.declared.numbers.Numeral.TheVariants.{Number, NotDigits}
+use Rattle.symbol_reader.specs.Leaves.{cell_of, numeral_of, bound_of, token_of, or_cell, Said, Means}
 
 no : {A : Type 0} → ◌≡◌ {A = ℕ} 0 1 → A
 no z = absurd (omega arith)
 
--- a meaning that is known
-pub means_known : {A : Type 0} {y : Symbol A} {of : A → ℕ} {t : Token} {m x : Meaning} → m ≡ x → Means y of t m → Means y of t x
-means_known {y = y} {of} {t} e h = subst (Means y of t) e h
+-- a token by its bytes
+pub means_at : {A Y : Type 0} {y : Symbol A} {of : A → Y} {place : ℕ} {bytes part : Bytes} {m : Result Y Refusal} → bytes ≡ part → Means y of (token_of place bytes) m → Means y of (token_of place part) m
+means_at {y = y} {of} {place} {m = m} e h = subst (λ (w : Bytes). Means y of (token_of place w) m) e h
 
 -- ---- numbers
 
@@ -51,38 +44,35 @@ bound_within n h = rw (lt-ltb n largest h)
 pub bound_beyond : (n : ℕ) → largest ≤ n → bound_of n ≡ largest
 bound_beyond n h = rw (le-ltb n largest h)
 
-spelled_digits : (w : Bytes) (n : ℕ) → numeral_of w ≡ Number n → (every is_digit w ≡ true) × (min (number_of w) largest ≡ n)
+spelled_digits : (w : Bytes) (n : ℕ) → numeral_of w ≡ Some n → (every is_digit w ≡ true) × (min (number_of w) largest ≡ n)
 spelled_digits w n e = go (every is_digit w) refl e
   where
-    go : (b : Bool) → every is_digit w ≡ b → cond b (Number (min (number_of w) largest)) NotDigits ≡ Number n → (every is_digit w ≡ true) × (min (number_of w) largest ≡ n)
+    go : (b : Bool) → every is_digit w ≡ b → cond b (Some (min (number_of w) largest)) None ≡ Some n → (every is_digit w ≡ true) × (min (number_of w) largest ≡ n)
     go true d e = (d, cc)
     go false d e = no (cc)
 
-spelled_none : (w : Bytes) → numeral_of w ≡ NotDigits → every is_digit w ≡ false
+spelled_none : (w : Bytes) → numeral_of w ≡ None → every is_digit w ≡ false
 spelled_none w e = go (every is_digit w) refl e
   where
-    go : (b : Bool) → every is_digit w ≡ b → cond b (Number (min (number_of w) largest)) NotDigits ≡ NotDigits → every is_digit w ≡ false
+    go : (b : Bool) → every is_digit w ≡ b → cond b (Some (min (number_of w) largest)) None ≡ None → every is_digit w ≡ false
     go true d e = no (cc)
     go false d e = d
 
-module _ (bound : ℕ) (text : Bytes) (t : Span) (inside : t.to ≤ length text) (filled : t.from < t.to) where
-  abbrev bytes : Bytes
-  bytes = (token_at text t).bytes
-
+module _ (bound place : ℕ) (bytes : Bytes) (filled : 0 < length bytes) where
   digits_only : is_numeral bytes ≡ every is_digit bytes
-  digits_only = numeral_some bytes (omega (arith, length-slice t.from t.to text inside))
+  digits_only = numeral_some bytes filled
 
-  pub number_none : numeral_of bytes ≡ NotDigits → Means (number bound []) (λ n. n) (token_at text t) (meaning.Refused WrongKind)
+  pub number_none : numeral_of bytes ≡ None → Means (number bound []) (λ n. n) (token_of place bytes) (Err WrongKind)
   number_none e = record { is = rw (digits_only, spelled_none bytes e) refl }
 
-  module _ (small : bound ≤ 65535) {n : ℕ} (e : numeral_of bytes ≡ Number n) where
-    pub number_beyond : bound ≤ n → Means (number bound []) (λ n. n) (token_at text t) (meaning.Refused OutOfRange)
+  module _ (small : bound ≤ 65535) {n : ℕ} (e : numeral_of bytes ≡ Some n) where
+    pub number_beyond : bound ≤ n → Means (number bound []) (λ n. n) (token_of place bytes) (Err OutOfRange)
     number_beyond h =
         let d = spelled_digits bytes n e in
         let k : bound ≤ number_of bytes = omega (arith, d.1) in
         record { is = rw (digits_only, d.0, le-ltb (number_of bytes) bound k) refl }
 
-    pub number_taken : n < bound → Means (number bound []) (λ n. n) (token_at text t) (meaning.Number n)
+    pub number_taken : n < bound → Means (number bound []) (λ n. n) (token_of place bytes) (Ok n)
     number_taken h =
         let d = spelled_digits bytes n e in
         let k : number_of bytes ≡ n = omega (arith, d.1) in
@@ -106,16 +96,16 @@ module _ (bound : ℕ) (used : List ℕ) (t : Token) where
   abbrev tests : Bool → Bool → Bool → Outcome ℕ
   tests a b c = unless 4 a (unless 5 b (unless 6 c (gives value_of)))
 
-  pub new_refused : {q : Refusal} → Means (number bound []) (λ n. n) t (meaning.Refused q) → Means (number bound used) (λ n. n) t (meaning.Refused q)
+  pub new_refused : {q : Refusal} → Means (number bound []) (λ n. n) t (Err q) → Means (number bound used) (λ n. n) t (Err q)
   new_refused {q} h = record { is = go (is_numeral t.bytes) (ltb value_of bound) h.is }
     where
-      go : (a b : Bool) → Said (λ n. n) (tests a b true) (meaning.Refused q) → Said (λ n. n) (tests a b (not (is_among eqb value_of used))) (meaning.Refused q)
+      go : (a b : Bool) → Said {Y = ℕ} (λ n. n) (tests a b true) (Err q) → Said (λ n. n) (tests a b (not (is_among eqb value_of used))) (Err q)
       go false b h = h
       go true false h = h
       go true true h = absurd h
 
-  module _ {n : ℕ} (h : Means (number bound []) (λ n. n) t (meaning.Number n)) where
-    both : (a b : Bool) → ltb value_of bound ≡ b → Said (λ n. n) (tests a b true) (meaning.Number n) → (a ≡ true) × (b ≡ true) × (value_of ≡ n) × (n < bound)
+  module _ {n : ℕ} (h : Means (number bound []) (λ n. n) t (Ok n)) where
+    both : (a b : Bool) → ltb value_of bound ≡ b → Said (λ n. n) (tests a b true) (Ok n) → (a ≡ true) × (b ≡ true) × (value_of ≡ n) × (n < bound)
     both false b e h = absurd h
     both true false e h = absurd h
     both true true e h = (refl, refl, h, omega (arith, h, ltb-true value_of bound e))
@@ -126,36 +116,64 @@ module _ (bound : ℕ) (used : List ℕ) (t : Token) where
     pub number-below : n < bound
     number-below = parts.3
 
-    pub new_used : is_among eqb n used ≡ true → Means (number bound used) (λ n. n) t (meaning.Refused UsedBefore)
+    pub new_used : is_among eqb n used ≡ true → Means (number bound used) (λ n. n) t (Err UsedBefore)
     new_used u = record { is = rw (parts.0, parts.1, ap (λ (k : ℕ). is_among eqb k used) parts.2 ∙ u) refl }
 
-    pub new_taken : is_among eqb n used ≡ false → Means (number bound used) (λ n. n) t (meaning.Number n)
+    pub new_taken : is_among eqb n used ≡ false → Means (number bound used) (λ n. n) t (Ok n)
     new_taken u = record { is = rw (parts.0, parts.1, ap (λ (k : ℕ). is_among eqb k used) parts.2 ∙ u) parts.2 }
 
 -- ---- words
 
 -- the place that is kept of a word is that of its token
-pub placed_at : (w text : Bytes) (t : Span) (p : ℕ) → decode (placed w) (token_at text t) ≡ gives p → p ≡ t.from
-placed_at w text t p e = go (same (token_at text t).bytes w) e
+pub placed_at : (w : Bytes) (t : Token) (p : ℕ) → decode (placed w) t ≡ gives p → p ≡ t.place
+placed_at w t p e = go (same t.bytes w) e
   where
-    go : (b : Bool) → unless 4 b (gives t.from) ≡ gives p → p ≡ t.from
+    go : (b : Bool) → unless 4 b (gives t.place) ≡ gives p → p ≡ t.place
     go true e = cc
     go false e = no (cc)
 
+-- the words of a choice with their cells
+abbrev pub cells_of : {A : Type 0} → (A → ℕ) → List (Word A) → List (Bytes × ℕ)
+cells_of cell [] = []
+cells_of cell (c ∷ cs) = (c.bytes, cell c.meaning) ∷ cells_of cell cs
+
+-- what a token means where one of them is due
+pub choice_means : {A : Type 0} (cell : A → ℕ) (words : List (Word A)) (place : ℕ) {w : Bytes} {m : Result ℕ Refusal} → m ≡ cell_of w (cells_of cell words) → Means (choice cell words (λ a. false)) cell (token_of place w) m
+choice_means {A} cell words place {w} e = record { is = subst (Said cell (chosen (λ a. false) (meaning_of words w))) (sym e) (go words) }
+  where
+    go : (cs : List (Word A)) → Said cell (chosen (λ a. false) (meaning_of cs w)) (cell_of w (cells_of cell cs))
+    go [] = refl
+    go (c ∷ cs) = by (same w c.bytes) (go cs)
+      where
+        by : (b : Bool) → Said cell (chosen (λ a. false) (meaning_of cs w)) (cell_of w (cells_of cell cs))
+            → Said cell (chosen (λ a. false) (cond b (some c.meaning) (meaning_of cs w))) (cond b (Ok (cell c.meaning)) (cell_of w (cells_of cell cs)))
+        by true h = refl
+        by false h = h
+
 -- ---- a word, or else another symbol
 
-module _ {A : Type 0} (w : Bytes) (cell : ℕ) (y : Symbol A) (of : A → ℕ) (t : Token) where
-  pub or_instead : same t.bytes w ≡ true → Means (or w cell y) (or_cell cell of) t (meaning.Number cell)
-  or_instead e = record { is = rw e refl }
+module _ {A : Type 0} (w : Bytes) (cell : ℕ) (y : Symbol A) (t : Token) where
+  module _ {Y : Type 0} (x : Y) (of : A → Y) where
+    pub or_instead : same t.bytes w ≡ true → Means (or w cell y) (or_cell x of) t (Ok x)
+    or_instead e = record { is = rw e refl }
 
-  pub or-given : {m : Meaning} → same t.bytes w ≡ false → Means y of t m → Means (or w cell y) (or_cell cell of) t m
-  or-given {m} e h = record { is = rw e (go (decode y t) m h.is) }
+    pub or-given : {m : Result Y Refusal} → same t.bytes w ≡ false → Means y of t m → Means (or w cell y) (or_cell x of) t m
+    or-given {m} e h = record { is = rw e (go (decode y t) m h.is) }
+      where
+        go : (o : Outcome A) (m : Result Y Refusal) → Said of o m → Said (or_cell x of) (or_else false o) m
+        go (gives a) (Ok n) h = h
+        go (gives a) (Err q) h = h
+        go (refuses r) (Ok n) h = h
+        go (refuses r) (Err q) h = h
+
+  -- what is kept where the token is not the word
+  pub given_only : same t.bytes w ≡ false → (P : Or A → Type 0) → ((x : A) → P (given x)) → (a : Or A) → decode (or w cell y) t ≡ gives a → P a
+  given_only e P p (given x) d = p x
+  given_only e P p instead d = go (decode y t) (sym (rw e refl) ∙ d)
     where
-      go : (o : Outcome A) (m : Meaning) → Said of o m → Said (or_cell cell of) (or_else false o) m
-      go (gives a) (meaning.Number n) h = h
-      go (gives a) (meaning.Refused q) h = h
-      go (refuses r) (meaning.Number n) h = h
-      go (refuses r) (meaning.Refused q) h = h
+      go : (o : Outcome A) → or_else false o ≡ gives instead → P instead
+      go (gives x) d = no (cc)
+      go (refuses r) d = no (cc)
 
   -- the word takes no value
   pub instead_no_value : same t.bytes w ≡ true → (a : Or A) → decode (or w cell y) t ≡ gives a → symbol_values (or w cell y) a ≡ []
@@ -176,35 +194,17 @@ or_in_range w cell bound t (given a) n e d = (e, subst (λ (k : ℕ). k < bound)
     go false (gives k) d = let i : k ≡ a = cc in ap gives i
     go false (refuses r) d = no (cc)
 
--- ---- values
-
-module _ (cs : List ℕ) (t : Token) (answer : ValueAnswer) (read : value_says answer ≡ read_value t.bytes) where
-  pub value-means : {n : ℕ} {m : Meaning} → Said (λ f. n) (value_says answer) m → Means (value cs) (λ f. n) t m
-  value-means {n} {m} h = record { is = subst (λ (o : Outcome Fraction). Said (λ f. n) o m) read h }
-
-  module _ {f : Fraction} (is : (g : Fraction) → value_says answer ≡ gives g → f ≡ g) where
-    pub value-kept : (g : Fraction) → decode (value cs) t ≡ gives g → symbol_values (value cs) g ≡ f ∷ []
-    value-kept g e = ap (λ (h : Fraction). h ∷ []) (sym (is g (read ∙ e)))
-
-    pub value-given : (w : Bytes) (cell : ℕ) → same t.bytes w ≡ false → (a : Or Fraction) → decode (or w cell (value cs)) t ≡ gives a → symbol_values (or w cell (value cs)) a ≡ f ∷ []
-    value-given w cell n a e = go (read_value t.bytes) refl a (sym (rw n refl) ∙ e)
-      where
-        go : (o : Outcome Fraction) → read_value t.bytes ≡ o → (a : Or Fraction) → or_else false o ≡ gives a → symbol_values (or w cell (value cs)) a ≡ f ∷ []
-        go (gives g) d instead h = no (cc)
-        go (gives g) d (given k) h = let i : g ≡ k = cc in value-kept k (d ∙ ap gives i)
-        go (refuses r) d a h = no (cc)
-
 -- ---- names of rows
 
 module _ (row : ℕ) (used : List Bytes) (of : Token → ℕ) (t : Token) where
-  pub name_none : is_name t.bytes ≡ false → Means (row_name row used) of t (meaning.Refused WrongKind)
+  pub name_none : is_name t.bytes ≡ false → Means (row_name row used) of t (Err WrongKind)
   name_none e = record { is = rw e refl }
 
   module _ (e : is_name t.bytes ≡ true) where
-    pub name_used : is_among same t.bytes used ≡ true → Means (row_name row used) of t (meaning.Refused UsedBefore)
+    pub name_used : is_among same t.bytes used ≡ true → Means (row_name row used) of t (Err UsedBefore)
     name_used u = record { is = rw (e, u) refl }
 
-    pub name_taken : {n : ℕ} → is_among same t.bytes used ≡ false → of t ≡ n → Means (row_name row used) of t (meaning.Number n)
+    pub name_taken : {n : ℕ} → is_among same t.bytes used ≡ false → of t ≡ n → Means (row_name row used) of t (Ok n)
     name_taken u h = record { is = rw (e, u) h }
 
   -- what is kept is the token

@@ -3,6 +3,7 @@
 use mathlib.Core.Path.{◌≡◌, refl, sym, ap, ◌∙◌, subst}
 use mathlib.Core.List.{List, [], ◌∷◌, ◌++◌}
 use mathlib.Core.Bool.{Bool, true, false, not}
+use Rattle.std.specs.Prelude.{Option, Some, None, Ok, Err}
 use Prim.Native.Nat.{ℕ, suc, ◌+◌, ◌-◌, ◌*◌, ◌≤◌, ◌<◌}
 use native.Mathlib.Nat.{add-zero, sub-zero}
 use native.Mathlib.Omega.{arith}
@@ -13,8 +14,7 @@ use Rattle.text.specs.Bytes.{Bytes}
 use Rattle.text.specs.Tokens.{Token, Stream, end, rest}
 use Rattle.text.specs.Scans.{Found, scan_of}
 use Rattle.text.proofs.ScansLaws.{found, ended}
-use Rattle.text.specs.declared.Scan.{Scan}
-use Rattle.text.specs.declared.Scan.TheVariants as scan
+use Rattle.text.specs.declared.Token.{Token as Span}
 use Rattle.arithmetic.specs.Outcome.{gives}
 use Rattle.arithmetic.specs.declared.Fraction.{Fraction}
 use Rattle.grammar.specs.Format.{Symbol, Format, symbol, then, items, nothing, view}
@@ -22,34 +22,33 @@ use Rattle.grammar.specs.Reading.{got, decode, read_items, read}
 use Rattle.grammar.specs.Layout.{symbol_cells, symbol_values, symbol_marks, gather, cells, values, Mark, marks}
 use Rattle.grammar.specs.Tables.{by_turns, laid}
 use Rattle.grammar.specs.Refusals.{refusal_number}
-use Rattle.grammar.specs.declared.Refusal.{Refusal}
-use Rattle.symbol_reader.specs.Steps.{State, state, IndexRoom, ValueRoom, Room, one_of, tokens, Named, Went, Stopped, any, Answers, Reads}
+use Rattle.grammar.specs.declared.Stop.{Stop}
+use Rattle.symbol_reader.specs.Steps.{State, state, IndexRoom, ValueRoom, Room, one_of, tokens, Named, Went, Stopped, any, Answer, Answers, Reads}
 use Rattle.symbol_reader.specs.declared.Cursor.{Cursor}
-use Rattle.symbol_reader.specs.declared.Step.{Step}
-use Rattle.symbol_reader.specs.declared.Step.TheVariants.{Next, Stop}
+use Rattle.symbol_reader.specs.declared.Next.{Next}
 use Rattle.symbol_reader.proofs.Tables.{sets_append, slice_sets, turns_append, turns_length, laid-append, laid-length, named-append, gather_snoc, marks_snoc}
 
 -- ---- what an answer that is known says
 
-module _ {A : Type 0} {f : Format A} {told : A → ℕ → Type 0} {text : Bytes} {s : State} {ix : List ℕ} {vs : List ℤ} {rs : List ℕ} {r : Step} (h : Reads f told text s ix vs rs r) where
-  pub next_is : {n : ℕ} {c : Cursor} → r ≡ Next n c → (a : A) × told a n × Went f a text s (state c ix vs rs)
-  next_is e = subst (λ (x : Step). Answers f told text s ix vs rs x) e h.is
+module _ {A : Type 0} {f : Format A} {told : A → ℕ → Type 0} {text : Bytes} {s : State} {ix : List ℕ} {vs : List ℤ} {rs : List ℕ} {r : Answer} (h : Reads f told text s ix vs rs r) where
+  pub next_is : {x : Next} → r ≡ Ok x → (a : A) × told a x.number × Went f a text s (state x.cursor ix vs rs)
+  next_is e = subst (λ (z : Answer). Answers f told text s ix vs rs z) e h.is
 
-  pub stop_is : {q : Refusal} {p : ℕ} → r ≡ Stop q p → Stopped f text s (refusal_number q) p
-  stop_is e = subst (λ (x : Step). Answers f told text s ix vs rs x) e h.is
+  pub stop_is : {e : Stop} → r ≡ Err e → Stopped f text s (refusal_number e.reason) e.place
+  stop_is e = subst (λ (z : Answer). Answers f told text s ix vs rs z) e h.is
 
 -- ---- the answer of a function from what is known
 
 module _ {A : Type 0} {f : Format A} {told : A → ℕ → Type 0} {text : Bytes} {s : State} {ix : List ℕ} {vs : List ℤ} {rs : List ℕ} where
-  pub reads_next : {a : A} {n : ℕ} {c : Cursor} → told a n → Went f a text s (state c ix vs rs) → Reads f told text s ix vs rs (Next n c)
+  pub reads_next : {a : A} {x : Next} → told a x.number → Went f a text s (state x.cursor ix vs rs) → Reads f told text s ix vs rs (Ok x)
   reads_next {a} e w = record { is = (a, e, w) }
 
-  pub reads_stop : {q : Refusal} {p : ℕ} → Stopped f text s (refusal_number q) p → Reads f told text s ix vs rs (Stop q p)
-  reads_stop e = record { is = e }
+  pub reads_stop : {e : Stop} → Stopped f text s (refusal_number e.reason) e.place → Reads f told text s ix vs rs (Err e)
+  reads_stop h = record { is = h }
 
-  -- an answer that is handed on as it stands, where it is known to be a refusal
-  pub reads_on : {r : Step} {q : Refusal} {p : ℕ} → r ≡ Stop q p → Stopped f text s (refusal_number q) p → Reads f told text s ix vs rs r
-  reads_on e h = record { is = subst (λ (x : Step). Answers f told text s ix vs rs x) (sym e) h }
+  -- an answer as it stands, where it is known to be a refusal
+  pub reads_on : {r : Answer} {e : Stop} → r ≡ Err e → Stopped f text s (refusal_number e.reason) e.place → Reads f told text s ix vs rs r
+  reads_on e h = record { is = subst (λ (z : Answer). Answers f told text s ix vs rs z) (sym e) h }
 
 -- ---- then
 
@@ -94,15 +93,15 @@ module _ {A : Type 0} {B : A → Type 0} {f : Format A} {g : (a : A) → Format 
         }
 
     -- the rest's answer is the answer of the whole
-    pub then_reads : {told : B a → ℕ → Type 0} {tells : (x : A) × B x → ℕ → Type 0} → ((b : B a) (n : ℕ) → told b n → tells (a, b) n) → {ix : List ℕ} {vs : List ℤ} {rs : List ℕ} {r : Step}
+    pub then_reads : {told : B a → ℕ → Type 0} {tells : (x : A) × B x → ℕ → Type 0} → ((b : B a) (n : ℕ) → told b n → tells (a, b) n) → {ix : List ℕ} {vs : List ℤ} {rs : List ℕ} {r : Answer}
         → Reads (g a) told text t ix vs rs r → Reads (then f g) tells text s ix vs rs r
     then_reads {told} {tells} same {ix} {vs} {rs} {r} k = record { is = by r k.is }
       where
-        by : (x : Step) → Answers (g a) told text t ix vs rs x → Answers (then f g) tells text s ix vs rs x
-        by (Next n c) w = ((a, w.0), same w.0 n w.1, then_went w.2)
-        by (Stop q p) e = then_stops e
+        by : (z : Answer) → Answers (g a) told text t ix vs rs z → Answers (then f g) tells text s ix vs rs z
+        by (Ok x) w = ((a, w.0), same w.0 x.number w.1, then_went w.2)
+        by (Err e) h = then_stops h
 
-    pub then_any : {told : B a → ℕ → Type 0} {ix : List ℕ} {vs : List ℤ} {rs : List ℕ} {r : Step} → Reads (g a) told text t ix vs rs r → Reads (then f g) any text s ix vs rs r
+    pub then_any : {told : B a → ℕ → Type 0} {ix : List ℕ} {vs : List ℤ} {rs : List ℕ} {r : Answer} → Reads (g a) told text t ix vs rs r → Reads (then f g) any text s ix vs rs r
     then_any k = then_reads {tells = any} (λ b n h. tt) k
 
 -- ---- nothing
@@ -145,15 +144,15 @@ module _ {A B : Type 0} {to : A → B} {from : B → A} {p : (a : A) → from (t
         room = h.room;
       }
 
-  pub view_reads : {told : A → ℕ → Type 0} {tells : B → ℕ → Type 0} → ((a : A) (n : ℕ) → told a n → tells (to a) n) → {ix : List ℕ} {vs : List ℤ} {rs : List ℕ} {r : Step}
+  pub view_reads : {told : A → ℕ → Type 0} {tells : B → ℕ → Type 0} → ((a : A) (n : ℕ) → told a n → tells (to a) n) → {ix : List ℕ} {vs : List ℤ} {rs : List ℕ} {r : Answer}
       → Reads f told text s ix vs rs r → Reads (view to from p q f) tells text s ix vs rs r
   view_reads {told} {tells} same {ix} {vs} {rs} {r} k = record { is = by r k.is }
     where
-      by : (x : Step) → Answers f told text s ix vs rs x → Answers (view to from p q f) tells text s ix vs rs x
-      by (Next n c) w = (to w.0, same w.0 n w.1, view_went w.2)
-      by (Stop r m) e = view_stop e
+      by : (z : Answer) → Answers f told text s ix vs rs z → Answers (view to from p q f) tells text s ix vs rs z
+      by (Ok x) w = (to w.0, same w.0 x.number w.1, view_went w.2)
+      by (Err e) h = view_stop h
 
-  pub view_any : {told : A → ℕ → Type 0} {ix : List ℕ} {vs : List ℤ} {rs : List ℕ} {r : Step} → Reads f told text s ix vs rs r → Reads (view to from p q f) any text s ix vs rs r
+  pub view_any : {told : A → ℕ → Type 0} {ix : List ℕ} {vs : List ℤ} {rs : List ℕ} {r : Answer} → Reads f told text s ix vs rs r → Reads (view to from p q f) any text s ix vs rs r
   view_any k = view_reads {tells = any} (λ a n h. tt) k
 
 -- ---- a symbol, found as the token from f to t
@@ -329,11 +328,11 @@ module _ {A : Type 0} {g : List A → Format A} {text : Bytes} where
 
 -- ---- scanning: what the answer of `next_token` says
 
-module _ (text : Bytes) (at : ℕ) {r : Scan} (e : r ≡ scan_of (rest text at)) where
-  pub token_found : {f t : ℕ} → r ≡ scan.Token f t → Found text at f t
+module _ (text : Bytes) (at : ℕ) {r : Option Span} (e : r ≡ scan_of (rest text at)) where
+  pub token_found : {t : Span} → r ≡ Some t → Found text at t.from t.to
   token_found h = found text at (sym e ∙ h)
 
-  pub token-missing : r ≡ scan.End → rest text at ≡ end (length text)
+  pub token-missing : r ≡ None → rest text at ≡ end (length text)
   token-missing h = ended text at (sym e ∙ h)
 
 -- a cell more fits the index table, where a token is left

@@ -3,6 +3,7 @@
 use mathlib.Core.Path.{◌≡◌, refl, sym, ap, ◌∙◌, subst}
 use mathlib.Core.Bool.{Bool, true, false, cond, ◌&&◌, ◌||◌}
 use mathlib.Core.List.{List, [], ◌∷◌}
+use Rattle.std.specs.Prelude.{Option, Some, None}
 use Prim.Native.Nat.{ℕ, ◌+◌, ◌-◌, ◌*◌, ◌≤◌, ◌<◌, min}
 use native.Mathlib.Numerals.{add-one}
 use native.Mathlib.Omega.{arith}
@@ -10,13 +11,13 @@ use lib.Dec.{leb, eqb}
 use lib.ListN.{length, get_or, take, length-take, drop_of_length-le}
 use lib.Seq.{slice, slice-cons}
 use borrow.Author.Tests.{le-leb, lt-leb, leb-true, leb-false}
-use Rattle.text.specs.Bytes.{Bytes, every, same, is_digit, number_after}
+use Rattle.std.specs.Char.{is_ascii_digit, is_ascii_graphic}
+use Rattle.std.specs.List.{list_all}
+use Rattle.text.specs.Bytes.{Bytes, every, same, is_digit, is_printable, number_after}
 use Rattle.grammar.specs.Reading.{is_among}
 use Rattle.tables.specs.Limits.{largest}
 use Rattle.symbol_reader.specs.Steps.{name_at}
 use Rattle.symbol_reader.specs.Leaves.{names_in}
-use Rattle.symbol_reader.specs.declared.numbers.Numeral.{Numeral}
-use Rattle.symbol_reader.specs.declared.numbers.Numeral.TheVariants.{Number, NotDigits}
 
 -- ---- a loop through a part of a list
 
@@ -65,11 +66,24 @@ module _ (low high b : ℕ) where
     pub is_between : b ≤ high → leb low b && leb b high ≡ true
     is_between h = rw (le-leb low b g, le-leb b high h)
 
+-- every element passes, as a chain finds it
+pub all_every : (test : ℕ → Bool) (w : Bytes) → list_all test w ≡ every test w
+all_every test [] = refl
+all_every test (b ∷ w) = ap (λ (t : Bool). test b && t) (all_every test w)
+
+pub printable : (b : ℕ) → is_ascii_graphic b ≡ is_printable b
+unfolding is_printable
+printable b = refl
+
+pub digit : (b : ℕ) → is_ascii_digit b ≡ is_digit b
+unfolding is_digit
+digit b = refl
+
 -- ---- the number that digits spell
 
 -- `numeral_of` after digits that spell n
-abbrev pub numeral_after : ℕ → Bytes → Numeral
-numeral_after n w = cond (every is_digit w) (Number (min (number_after n w) largest)) NotDigits
+abbrev pub numeral_after : ℕ → Bytes → Option ℕ
+numeral_after n w = cond (every is_digit w) (Some (min (number_after n w) largest)) None
 
 number_grows : (n : ℕ) (w : Bytes) → n ≤ number_after n w
 number_grows n [] = omega arith
@@ -86,10 +100,10 @@ number_capped n w = go (leb n largest) refl
         rw h (omega (arith, leb-false n largest e, number_grows largest w, number_grows n w))
 
 pub numeral_digit : (n b : ℕ) (w : Bytes) → is_digit b ≡ true → numeral_after n (b ∷ w) ≡ numeral_after (min (n * 10 + (b - 48)) largest) w
-numeral_digit n b w e = rw e (ap (λ (k : ℕ). cond (every is_digit w) (Number k) NotDigits) (number_capped (n * 10 + (b - 48)) w))
+numeral_digit n b w e = rw e (ap (λ (k : ℕ). cond (every is_digit w) (Some k) None) (number_capped (n * 10 + (b - 48)) w))
 
 -- a byte before the digits is none
-pub numeral_stops : (n i to : ℕ) (text : List ℕ) → i < to → to ≤ length text → get_or text i 0 < 48 → numeral_after n (slice i to text) ≡ NotDigits
+pub numeral_stops : (n i to : ℕ) (text : List ℕ) → i < to → to ≤ length text → get_or text i 0 < 48 → numeral_after n (slice i to text) ≡ None
 unfolding is_digit
 numeral_stops n i to text h k below =
     sym (settled {F = numeral_after n} {answer = numeral_after n (slice i to text)} (record { is = refl }) h k (λ w. rw (is_below 48 57 (get_or text i 0) below)))

@@ -1,12 +1,10 @@
 -- Marks: which numbers are marked in words of 64 bits.
 -- Assumes nothing.
-use Rattle.std.specs.Prelude.{◌≡◌, Bool, true, ◌||◌, List, ℕ, ◌*◌, ◌/◌, ◌%◌, ◌<◌, eqb, length, get_or}
+use Rattle.std.specs.Prelude.{◌≡◌, Bool, true, List, ℕ, ◌*◌, ◌/◌, ◌%◌, ◌<◌, eqb, length, get_or}
 use Rattle.text.specs.Bytes.{Bytes, same}
 use Rattle.sets.specs.Sets.{bit}
 use Rattle.grammar.specs.Reading.{is_among}
 use Rattle.symbol_reader.specs.Leaves.{fingerprint_of}
-use Rattle.symbol_reader.specs.declared.Step.{Step}
-use Rattle.symbol_reader.specs.declared.Step.TheVariants.{Next, Stop}
 
 -- bit n % 64 of the word n / 64
 abbrev pub marked : List ℕ → ℕ → Bool
@@ -15,11 +13,6 @@ marked words n = eqb (bit (get_or words (n / 64) 0) (n % 64)) 1
 -- just these numbers are marked, of those that the words can mark
 pub record Marks (numbers words : List ℕ) : Type 0 where
   pub are : (n : ℕ) → n < 64 * length words → marked words n ≡ is_among eqb n numbers
-
--- by an answer: where it went on with a number, that one is marked besides; where it stopped, the words are kept
-abbrev pub MarksMore : List ℕ → List ℕ → Step → Type 0
-MarksMore words words' (Next n c) = (k : ℕ) → k < 64 * length words → marked words' k ≡ (eqb k n || marked words k)
-MarksMore words words' (Stop q p) = words' ≡ words
 
 -- the words that mark all fingerprints, of which there are 65,536
 abbrev pub print_words : ℕ

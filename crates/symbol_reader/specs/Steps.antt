@@ -3,7 +3,7 @@
 -- cursor's place, with the same reason and place; or `read` keeps some a of them, and it goes on at the state that has a
 -- written into the tables.
 -- Assumes nothing.
-use Rattle.std.specs.Prelude.{◌≡◌, List, [], ◌∷◌, ℕ, ◌+◌, ◌*◌, ◌≤◌, ℤ, length}
+use Rattle.std.specs.Prelude.{◌≡◌, List, [], ◌∷◌, ℕ, ◌+◌, ◌*◌, ◌≤◌, ℤ, Result, Ok, Err, length}
 use Rattle.std.proofs.Math.Seq.{slice}
 use Rattle.std.proofs.lemmas.List.Edits.{sets}
 use Rattle.text.specs.Bytes.{Bytes}
@@ -14,9 +14,9 @@ use Rattle.grammar.specs.Layout.{gather, cells, values, Mark, marks}
 use Rattle.grammar.specs.Tables.{by_turns, laid}
 use Rattle.tables.specs.Limits.{index_cells, value_cells, row_cells}
 use Rattle.grammar.specs.Refusals.{refusal_number}
+use Rattle.grammar.specs.declared.Stop.{Stop}
 use Rattle.symbol_reader.specs.declared.Cursor.{Cursor}
-use Rattle.symbol_reader.specs.declared.Step.{Step}
-use Rattle.symbol_reader.specs.declared.Step.TheVariants.{Next, Stop}
+use Rattle.symbol_reader.specs.declared.Next.{Next}
 
 -- ---- states, and the room that is left
 
@@ -52,6 +52,10 @@ pub record Room (text : Bytes) (s : State) : Type 0 where
   pub of_rows : RowRoom s.rows
 
 -- ---- the contract
+
+-- an answer: a number and where the reading goes on, or where it stops
+abbrev pub Answer : Type 0
+Answer = Result Next Stop
 
 abbrev pub one_of : (A : Type 0) → Symbol A → A → List ℕ
 one_of A s a = 0 ∷ []
@@ -92,10 +96,10 @@ abbrev pub the : {A : Type 0} → (A → ℕ) → A → ℕ → Type 0
 the of a n = of a ≡ n
 
 -- by cases on the answer
-abbrev pub Answers : {A : Type 0} → Format A → (A → ℕ → Type 0) → Bytes → State → List ℕ → List ℤ → List ℕ → Step → Type 0
-Answers {A} f told text s index values rows (Next n c) = (a : A) × told a n × Went f a text s (state c index values rows)
-Answers f told text s index values rows (Stop r p) = Stopped f text s (refusal_number r) p
+abbrev pub Answers : {A : Type 0} → Format A → (A → ℕ → Type 0) → Bytes → State → List ℕ → List ℤ → List ℕ → Answer → Type 0
+Answers {A} f told text s index values rows (Ok next) = (a : A) × told a next.number × Went f a text s (state next.cursor index values rows)
+Answers f told text s index values rows (Err stop) = Stopped f text s (refusal_number stop.reason) stop.place
 
 -- THE CONTRACT: r answers to reading f at s, its number says what is told, and the tables are these afterwards
-pub record Reads {A : Type 0} (f : Format A) (told : A → ℕ → Type 0) (text : Bytes) (s : State) (index : List ℕ) (values : List ℤ) (rows : List ℕ) (r : Step) : Type 0 where
+pub record Reads {A : Type 0} (f : Format A) (told : A → ℕ → Type 0) (text : Bytes) (s : State) (index : List ℕ) (values : List ℤ) (rows : List ℕ) (r : Answer) : Type 0 where
   pub is : Answers f told text s index values rows r

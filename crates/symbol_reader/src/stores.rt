@@ -1,40 +1,38 @@
-// What a token takes of the tables, stored after it was tested. Where a table has no room the token is refused, and nothing is stored.
-ghost use Rattle.std.specs.Prelude.{◌≡◌, [], ◌∷◌, length, ◌+◌, ◌*◌, ◌≤◌, ◌<◌};
+// What a token takes of the tables, by its meaning: a refused token takes nothing. Where a table has no room the token is refused, and
+// nothing is stored.
+ghost use Rattle.std.specs.Prelude.{◌≡◌, [], ◌∷◌, length, ◌+◌, ◌-◌, ◌*◌, ◌≤◌, ◌<◌, ◌^◌};
 ghost use Rattle.std.proofs.lemmas.List.Edits.{sets};
 ghost use Rattle.symbol_reader.specs.Leaves.{Given, Filled, Valued, Ended, Rowed};
 
-use crate::tokens::Span;
-use crate::{Cursor, Step};
+use crate::tokens::{no_room, refused};
+use crate::{Cursor, Next, Step};
 use arithmetic::Fraction;
 use grammar::Refusal;
+use text::Token;
 
-// A number of 16 bits, 0 for one that has more.
-fn low(n: usize) -> u16
-    ensures { n < 65536 → result ≡ n }
+// The number of a token takes an index cell.
+pub(crate) fn filled(
+    cursor: Cursor,
+    token: Token,
+    meaning: Result<u16, Refusal>,
+    index: &mut [u16],
+) -> Step
+    requires { token.to < 2 ^ 63 }
+    ensures { Given meaning (Filled token cursor index.old index.new result) }
 {
-    if n < 65536 { n as u16 } else { 0 }
-}
-
-// The number of the answer takes an index cell.
-pub(crate) fn filled(s: Step, place: usize, index: &mut [u16]) -> Step
-    ensures { Given s (Filled place index.old index.new result) }
-{
-    let Step::Next(n, c) = s else {
-        return s;
-    };
-    let cells = c.cells;
+    let number = meaning.map_err(|reason| refused(token, reason))?;
+    let cells = cursor.cells;
     if index.len() <= cells {
-        return Step::Stop(Refusal::TableTooSmall, place);
+        return Err(no_room(token));
     }
-    index[cells] = low(n);
-    Step::Next(
-        n,
-        Cursor {
-            at: c.at,
+    index[cells] = number;
+    Ok(Next {
+        number: usize::from(number),
+        cursor: Cursor {
             cells: cells + 1,
-            values: c.values,
+            ..cursor.past(token)
         },
-    )
+    })
 }
 
 // The numerator and the denominator of the value with this number.
@@ -42,91 +40,102 @@ fn store_value(values: &mut [i32], number: usize, f: Fraction)
     requires { 2 * number + 2 ≤ length values.old }
     ensures { values.new ≡ sets values.old (2 * number) (f.num ∷ f.den ∷ []) }
 {
-    let num = f.num;
-    let den = f.den;
     let at = 2 * number;
-    values[at] = num;
-    values[at + 1] = den;
+    values[at] = f.num;
+    values[at + 1] = f.den;
 }
 
 // A value more.
-pub(crate) fn valued(s: Step, place: usize, f: Fraction, values: &mut [i32]) -> Step
-    ensures { Given s (Valued place f values.old values.new result) }
+pub(crate) fn valued(
+    cursor: Cursor,
+    token: Token,
+    meaning: Result<Fraction, Refusal>,
+    values: &mut [i32],
+) -> Step
+    requires { token.to < 2 ^ 63 }
+    ensures { Given meaning (Valued token cursor values.old values.new result) }
 {
-    let Step::Next(n, c) = s else {
-        return s;
-    };
-    let v = c.values;
+    let value = meaning.map_err(|reason| refused(token, reason))?;
+    let v = cursor.values;
     if values.len() / 2 <= v {
-        return Step::Stop(Refusal::TableTooSmall, place);
+        return Err(no_room(token));
     }
-    store_value(values, v, f);
-    Step::Next(
-        n,
-        Cursor {
-            at: c.at,
-            cells: c.cells,
+    store_value(values, v, value);
+    Ok(Next {
+        number: 0,
+        cursor: Cursor {
             values: v + 1,
+            ..cursor.past(token)
         },
-    )
+    })
 }
 
-// A value more, and the answer's number takes an index cell: an end of a range.
+// A value more, which is an end of a range and takes the cell 1.
 pub(crate) fn ended(
-    s: Step,
-    place: usize,
-    f: Fraction,
+    cursor: Cursor,
+    token: Token,
+    meaning: Result<Fraction, Refusal>,
     index: &mut [u16],
     values: &mut [i32],
 ) -> Step
-    ensures { Given s (Ended place f (index.old, values.old) (index.new, values.new) result) }
+    requires { token.to < 2 ^ 63 }
+    ensures { Given meaning (Ended token cursor (index.old, values.old) (index.new, values.new) result) }
 {
-    let Step::Next(n, c) = s else {
-        return s;
-    };
-    let cell = c.cells;
-    let v = c.values;
-    if index.len() <= cell {
-        return Step::Stop(Refusal::TableTooSmall, place);
+    let value = meaning.map_err(|reason| refused(token, reason))?;
+    let cells = cursor.cells;
+    let v = cursor.values;
+    if index.len() <= cells || values.len() / 2 <= v {
+        return Err(no_room(token));
     }
-    if values.len() / 2 <= v {
-        return Step::Stop(Refusal::TableTooSmall, place);
-    }
-    index[cell] = low(n);
-    store_value(values, v, f);
-    Step::Next(
-        n,
-        Cursor {
-            at: c.at,
-            cells: cell + 1,
+    index[cells] = 1;
+    store_value(values, v, value);
+    Ok(Next {
+        number: 1,
+        cursor: Cursor {
+            at: token.to + 1,
+            cells: cells + 1,
             values: v + 1,
         },
-    )
+    })
 }
 
-// The four cells of a row.
-fn store_row(rows: &mut [u16], row: usize, place: usize, size: usize, cells: usize, values: usize)
-    requires { 4 * row + 4 ≤ length rows.old }
-    ensures { place < 65536 → size < 65536 → cells < 65536 → values < 65536 → rows.new ≡ sets rows.old (4 * row) (place ∷ size ∷ cells ∷ values ∷ []) }
+// A number of 16 bits, 0 for one that has more.
+fn low(n: usize) -> u16
+    ensures { n < 65536 → result ≡ n }
+{
+    u16::try_from(n).unwrap_or(0)
+}
+
+// The four cells of a row: the place and the size of its name, and where its cells and its values begin.
+fn store_row(rows: &mut [u16], row: usize, token: Token, cursor: Cursor)
+    requires { (4 * row + 4 ≤ length rows.old) × (token.from ≤ token.to) }
+    ensures { token.to < 65536 → cursor.cells < 65536 → cursor.values < 65536 → rows.new ≡ sets rows.old (4 * row) (token.from ∷ (token.to - token.from) ∷ cursor.cells ∷ cursor.values ∷ []) }
 {
     let at = 4 * row;
-    rows[at] = low(place);
-    rows[at + 1] = low(size);
-    rows[at + 2] = low(cells);
-    rows[at + 3] = low(values);
+    rows[at] = low(token.from);
+    rows[at + 1] = low(token.to - token.from);
+    rows[at + 2] = low(cursor.cells);
+    rows[at + 3] = low(cursor.values);
 }
 
-// The name that was read takes this row.
-pub(crate) fn rowed(s: Step, t: Span, row: usize, rows: &mut [u16]) -> Step
-    requires { t.from ≤ t.to }
-    ensures { Given s (Rowed t row rows.old rows.new result) }
+// A name takes this row.
+pub(crate) fn rowed(
+    cursor: Cursor,
+    token: Token,
+    meaning: Result<u16, Refusal>,
+    row: usize,
+    rows: &mut [u16],
+) -> Step
+    requires { (token.from ≤ token.to) × (token.to < 2 ^ 63) }
+    ensures { Given meaning (Rowed token cursor row rows.old rows.new result) }
 {
-    let Step::Next(_, c) = s else {
-        return s;
-    };
+    let number = meaning.map_err(|reason| refused(token, reason))?;
     if rows.len() / 4 <= row {
-        return Step::Stop(Refusal::TableTooSmall, t.from);
+        return Err(no_room(token));
     }
-    store_row(rows, row, t.from, t.to - t.from, c.cells, c.values);
-    s
+    store_row(rows, row, token, cursor);
+    Ok(Next {
+        number: usize::from(number),
+        cursor: cursor.past(token),
+    })
 }

@@ -1,67 +1,64 @@
 // One token: where it stands, and the answer to it before anything is stored.
 ghost use Rattle.std.specs.Prelude.{◌≡◌, ◌<◌, ◌^◌};
-ghost use Rattle.symbol_reader.specs.Leaves.{Given, Due, Passed};
+ghost use Rattle.std.proofs.Math.Seq.{slice};
+ghost use Rattle.text.specs.Bytes.{same};
+ghost use Rattle.symbol_reader.specs.Leaves.{Given, Due, stop, Passed};
+ghost use Rattle.grammar.specs.declared.Refusal.TheVariants.{TableTooSmall};
 
-use crate::{Cursor, Step};
-use grammar::Refusal;
-use text::Scan;
+use crate::{Cursor, Next, Step};
+use grammar::{Refusal, Stop};
+use text::Token;
 
-// Where a token stands, from .. to; no byte where none is left.
-#[derive(Clone, Copy)]
-pub(crate) struct Span {
-    pub(crate) from: usize,
-    pub(crate) to: usize,
-}
-
-// What a token means where a symbol is due: a number for what is kept of it, or its refusal.
-#[derive(Clone, Copy)]
-pub(crate) enum Meaning {
-    Number(u16),
-    Refused(Refusal),
-}
-
-// The token after an answer.
-pub(crate) fn due(text: &[u8], s: Step) -> Span
-    ensures { Due text.now s result }
+// The token that is due at a cursor.
+pub(crate) fn due(text: &[u8], cursor: Cursor) -> Result<Token, Stop>
+    ensures { Due text.now cursor.at result }
 {
-    let Step::Next(_, c) = s else {
-        return Span { from: 0, to: 0 };
+    let missing = Stop {
+        reason: Refusal::TokenMissing,
+        place: text.len(),
     };
-    let at = c.at;
-    let scan = text::next_token(text, at);
-    let Scan::Token(from, to) = scan else {
-        let end = text.len();
-        return Span { from: end, to: end };
-    };
-    Span { from: from, to: to }
+    text::next_token(text, cursor.at).ok_or(missing)
 }
 
-pub(crate) fn wide(x: u16) -> usize
-    ensures { result ≡ x }
+// Its bytes.
+pub(crate) fn bytes(text: &[u8], token: Token) -> &[u8]
+    ensures { result.now ≡ slice token.from token.to text.now }
 {
-    x as usize
+    text::part(text, token.from, token.to)
 }
 
-// The answer to a token with this meaning, after the answer s.
-pub(crate) fn passed(s: Step, t: Span, m: Meaning) -> Step
-    requires { t.to < 2 ^ 63 }
-    ensures { Given s (Passed t m result) }
+// Its refusal.
+pub(crate) fn refused(token: Token, reason: Refusal) -> Stop
+    ensures { result ≡ stop reason token.from }
 {
-    let Step::Next(_, c) = s else {
-        return s;
-    };
-    if t.to <= t.from {
-        return Step::Stop(Refusal::TokenMissing, t.from);
+    Stop {
+        reason,
+        place: token.from,
     }
-    match m {
-        Meaning::Refused(reason) => Step::Stop(reason, t.from),
-        Meaning::Number(n) => Step::Next(
-            wide(n),
-            Cursor {
-                at: t.to + 1,
-                cells: c.cells,
-                values: c.values,
-            },
-        ),
-    }
+}
+
+// Its refusal for want of room in a table.
+pub(crate) fn no_room(token: Token) -> Stop
+    ensures { result ≡ stop TableTooSmall token.from }
+{
+    refused(token, Refusal::TableTooSmall)
+}
+
+// The answer to a token with this meaning, where nothing is stored.
+pub(crate) fn passed(cursor: Cursor, token: Token, meaning: Result<u16, Refusal>) -> Step
+    requires { token.to < 2 ^ 63 }
+    ensures { Given meaning (Passed token cursor result) }
+{
+    let number = meaning.map_err(|reason| refused(token, reason))?;
+    Ok(Next {
+        number: usize::from(number),
+        cursor: cursor.past(token),
+    })
+}
+
+// They are the word, byte for byte, case included.
+pub(crate) fn is(token: &[u8], word: &[u8]) -> bool
+    ensures { result ≡ same token.now word.now }
+{
+    token == word
 }

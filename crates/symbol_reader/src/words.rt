@@ -1,165 +1,134 @@
 // Words: those of sections, and those of each choice, every one of them held against the token as a fixed byte string.
-ghost use Rattle.std.specs.Prelude.{◌≡◌, false, ◌&&◌, List, leb, ℤ, ℕ};
+ghost use Rattle.std.specs.Prelude.{◌≡◌, false, ◌&&◌, List, map, leb, ℤ, ℕ};
 ghost use Rattle.grammar.specs.Format.{symbol, placed, choice};
 ghost use Rattle.grammar.specs.Format as F;
 ghost use Rattle.grammar.specs.Certificate.{sense, sense_cell, direction, direction_cell, claim_cell, reason_cell, reason_words, is_asm, one_of};
 ghost use Rattle.symbol_reader.specs.Steps.{the};
 ghost use Rattle.symbol_reader.specs.Follows.{Always, Follows, Refuses};
-ghost use Rattle.symbol_reader.specs.Leaves.{Given, Means, token_at, NoCell, Placed, senses, directions, claims};
+ghost use Rattle.symbol_reader.specs.Leaves.{Means, token_of, NoCell, senses, directions, claims, cell_of};
 ghost use Rattle.tables.specs.Limits.{most_assumptions};
 
-use crate::tokens::{Meaning, Span};
-use crate::{Step, stores, tokens};
+use crate::{Cursor, Next, Step, stores, tokens};
 use grammar::Refusal;
-use tables::limits;
+use tables::{limits, words};
 
 // ---- this word
 
-fn word_in(text: &[u8], t: Span, word: &[u8]) -> Meaning
-    ensures means { Means (placed word.now) (λ p. 0) (token_at text.now t) result }
-    ensures means_2 { Means (F.word word.now) (λ u. 0) (token_at text.now t) result }
+// What a token means where the word is due.
+fn word_in(token: &[u8], word: &[u8]) -> Result<u16, Refusal>
+    ensures means { (place : ℕ) → Means (placed word.now) (λ p. 0) (token_of place token.now) result }
+    ensures means_2 { (place : ℕ) → Means (F.word word.now) (λ u. 0) (token_of place token.now) result }
 {
-    if text::is_word(text, t.from, t.to, word) {
-        return Meaning::Number(0);
+    if tokens::is(token, word) {
+        Ok(0)
+    } else {
+        Err(Refusal::WrongKind)
     }
-    Meaning::Refused(Refusal::WrongKind)
 }
 
 // The word is due.
-pub fn read_word(text: &[u8], s: Step, word: &[u8]) -> Step
-    ensures { (ix : List ℕ) (vs : List ℤ) (rs : List ℕ) → Follows Always (λ _. symbol (F.word word.now)) (the (λ u. 0)) text.now s ix vs rs ix vs rs result }
+pub fn read_word(text: &[u8], cursor: Cursor, word: &[u8]) -> Step
+    ensures { (ix : List ℕ) (vs : List ℤ) (rs : List ℕ) → Follows Always (symbol (F.word word.now)) (the (λ u. 0)) text.now cursor ix vs rs ix vs rs result }
 {
-    let t = tokens::due(text, s);
-    tokens::passed(s, t, word_in(text, t, word))
-}
-
-// The answer with a place for its number.
-fn at_place(s: Step, place: usize) -> Step
-    ensures { Given s (Placed place result) }
-{
-    let Step::Next(_, c) = s else {
-        return s;
-    };
-    Step::Next(place, c)
+    let token = tokens::due(text, cursor)?;
+    tokens::passed(cursor, token, word_in(tokens::bytes(text, token), word))
 }
 
 // The word is due; its place is handed back.
-pub fn read_placed(text: &[u8], s: Step, word: &[u8]) -> Step
-    ensures { (ix : List ℕ) (vs : List ℤ) (rs : List ℕ) → Follows Always (λ _. symbol (placed word.now)) (the (λ p. p)) text.now s ix vs rs ix vs rs result }
+pub fn read_placed(text: &[u8], cursor: Cursor, word: &[u8]) -> Step
+    ensures { (ix : List ℕ) (vs : List ℤ) (rs : List ℕ) → Follows Always (symbol (placed word.now)) (the (λ p. p)) text.now cursor ix vs rs ix vs rs result }
 {
-    let t = tokens::due(text, s);
-    let s = tokens::passed(s, t, word_in(text, t, word));
-    at_place(s, t.from)
+    let token = tokens::due(text, cursor)?;
+    let next = tokens::passed(cursor, token, word_in(tokens::bytes(text, token), word))?;
+    Ok(Next {
+        number: token.from,
+        ..next
+    })
 }
 
-// ---- `E`, `L` or `G`
+// ---- one of some words
 
-fn sense_in(text: &[u8], t: Span) -> Meaning
-    ensures { Means (choice sense_cell senses (λ a. false)) sense_cell (token_at text.now t) result }
+// The words of each choice, with the cell that each takes.
+const SENSES: [(&[u8], u16); 3] = [
+    (b"E", words::E as u16),
+    (b"L", words::L as u16),
+    (b"G", words::G as u16),
+];
+
+const DIRECTIONS: [(&[u8], u16); 2] = [(b"min", words::MIN as u16), (b"max", words::MAX as u16)];
+
+const CLAIMS: [(&[u8], u16); 2] = [
+    (b"infeas", words::INFEAS as u16),
+    (b"range", words::RANGE as u16),
+];
+
+const REASONS: [(&[u8], u16); 5] = [
+    (b"asm", words::ASM as u16),
+    (b"lin", words::LIN as u16),
+    (b"rnd", words::RND as u16),
+    (b"uns", words::UNS as u16),
+    (b"sol", words::SOL as u16),
+];
+
+// What a token means where one of these words is due.
+fn choice_in(token: &[u8], choice: &[(&[u8], u16)]) -> Result<u16, Refusal>
+    ensures { result ≡ cell_of token.now (map (λ w. (w.0.now, w.1)) choice.now) }
 {
-    if text::is_word(text, t.from, t.to, b"E") {
-        return Meaning::Number(0);
-    }
-    if text::is_word(text, t.from, t.to, b"L") {
-        return Meaning::Number(1);
-    }
-    if text::is_word(text, t.from, t.to, b"G") {
-        return Meaning::Number(2);
-    }
-    Meaning::Refused(Refusal::WrongKind)
-}
-
-// A row's sense is due.
-pub fn read_sense(text: &[u8], s: Step, index: &mut [u16]) -> Step
-    ensures follows { (vs : List ℤ) (rs : List ℕ) → Follows Always (λ _. sense) (the sense_cell) text.now s index.old vs rs index.new vs rs result }
-    ensures refuses { Refuses (NoCell index.old) (choice sense_cell senses (λ a. false)) text.now s (index.new ≡ index.old) result }
-{
-    let t = tokens::due(text, s);
-    let s = tokens::passed(s, t, sense_in(text, t));
-    stores::filled(s, t.from, index)
-}
-
-// ---- `min` or `max`
-
-fn direction_in(text: &[u8], t: Span) -> Meaning
-    ensures { Means (choice direction_cell directions (λ a. false)) direction_cell (token_at text.now t) result }
-{
-    if text::is_word(text, t.from, t.to, b"min") {
-        return Meaning::Number(0);
-    }
-    if text::is_word(text, t.from, t.to, b"max") {
-        return Meaning::Number(1);
-    }
-    Meaning::Refused(Refusal::WrongKind)
-}
-
-// The objective's direction is due.
-pub fn read_direction(text: &[u8], s: Step, index: &mut [u16]) -> Step
-    ensures follows { (vs : List ℤ) (rs : List ℕ) → Follows Always (λ _. direction) (the direction_cell) text.now s index.old vs rs index.new vs rs result }
-    ensures refuses { Refuses (NoCell index.old) (choice direction_cell directions (λ a. false)) text.now s (index.new ≡ index.old) result }
-{
-    let t = tokens::due(text, s);
-    let s = tokens::passed(s, t, direction_in(text, t));
-    stores::filled(s, t.from, index)
-}
-
-// ---- `infeas` or `range`
-
-fn claim_in(text: &[u8], t: Span) -> Meaning
-    ensures { Means (choice claim_cell claims (λ a. false)) claim_cell (token_at text.now t) result }
-{
-    if text::is_word(text, t.from, t.to, b"infeas") {
-        return Meaning::Number(0);
-    }
-    if text::is_word(text, t.from, t.to, b"range") {
-        return Meaning::Number(1);
-    }
-    Meaning::Refused(Refusal::WrongKind)
-}
-
-// A claim's word is due.
-pub fn read_claim_word(text: &[u8], s: Step, index: &mut [u16]) -> Step
-    ensures follows { (vs : List ℤ) (rs : List ℕ) → Follows Always (λ _. one_of claim_cell claims) (the claim_cell) text.now s index.old vs rs index.new vs rs result }
-    ensures refuses { Refuses (NoCell index.old) (choice claim_cell claims (λ a. false)) text.now s (index.new ≡ index.old) result }
-{
-    let t = tokens::due(text, s);
-    let s = tokens::passed(s, t, claim_in(text, t));
-    stores::filled(s, t.from, index)
-}
-
-// ---- `asm`, `lin`, `rnd`, `uns` or `sol`
-
-// After as many assumptions as there may be `asm` is out of range.
-fn reason_in(text: &[u8], t: Span, assumed: usize) -> Meaning
-    ensures { Means (choice reason_cell reason_words (λ w. is_asm w && leb most_assumptions assumed)) reason_cell (token_at text.now t) result }
-{
-    if text::is_word(text, t.from, t.to, b"asm") {
-        if limits::ASSUMPTIONS <= assumed {
-            return Meaning::Refused(Refusal::OutOfRange);
+    for (word, cell) in choice {
+        if tokens::is(token, word) {
+            return Ok(*cell);
         }
-        return Meaning::Number(0);
     }
-    if text::is_word(text, t.from, t.to, b"lin") {
-        return Meaning::Number(1);
+    Err(Refusal::WrongKind)
+}
+
+// A row's sense is due: `E`, `L` or `G`.
+pub fn read_sense(text: &[u8], cursor: Cursor, index: &mut [u16]) -> Step
+    ensures follows { (vs : List ℤ) (rs : List ℕ) → Follows Always sense (the sense_cell) text.now cursor index.old vs rs index.new vs rs result }
+    ensures refuses { Refuses (NoCell index.old) (choice sense_cell senses (λ a. false)) text.now cursor (index.new ≡ index.old) result }
+{
+    let token = tokens::due(text, cursor)?;
+    let meaning = choice_in(tokens::bytes(text, token), &SENSES);
+    stores::filled(cursor, token, meaning, index)
+}
+
+// The objective's direction is due: `min` or `max`.
+pub fn read_direction(text: &[u8], cursor: Cursor, index: &mut [u16]) -> Step
+    ensures follows { (vs : List ℤ) (rs : List ℕ) → Follows Always direction (the direction_cell) text.now cursor index.old vs rs index.new vs rs result }
+    ensures refuses { Refuses (NoCell index.old) (choice direction_cell directions (λ a. false)) text.now cursor (index.new ≡ index.old) result }
+{
+    let token = tokens::due(text, cursor)?;
+    let meaning = choice_in(tokens::bytes(text, token), &DIRECTIONS);
+    stores::filled(cursor, token, meaning, index)
+}
+
+// A claim's word is due: `infeas` or `range`.
+pub fn read_claim_word(text: &[u8], cursor: Cursor, index: &mut [u16]) -> Step
+    ensures follows { (vs : List ℤ) (rs : List ℕ) → Follows Always (one_of claim_cell claims) (the claim_cell) text.now cursor index.old vs rs index.new vs rs result }
+    ensures refuses { Refuses (NoCell index.old) (choice claim_cell claims (λ a. false)) text.now cursor (index.new ≡ index.old) result }
+{
+    let token = tokens::due(text, cursor)?;
+    let meaning = choice_in(tokens::bytes(text, token), &CLAIMS);
+    stores::filled(cursor, token, meaning, index)
+}
+
+// What a token means where a reason's word is due, after so many assumptions: after as many as there may be `asm` is out of range.
+fn reason_in(token: &[u8], assumed: usize) -> Result<u16, Refusal>
+    ensures { (place : ℕ) → Means (choice reason_cell reason_words (λ w. is_asm w && leb most_assumptions assumed)) reason_cell (token_of place token.now) result }
+{
+    let word = choice_in(token, &REASONS)?;
+    if usize::from(word) == words::ASM && limits::ASSUMPTIONS <= assumed {
+        return Err(Refusal::OutOfRange);
     }
-    if text::is_word(text, t.from, t.to, b"rnd") {
-        return Meaning::Number(2);
-    }
-    if text::is_word(text, t.from, t.to, b"uns") {
-        return Meaning::Number(3);
-    }
-    if text::is_word(text, t.from, t.to, b"sol") {
-        return Meaning::Number(4);
-    }
-    Meaning::Refused(Refusal::WrongKind)
+    Ok(word)
 }
 
 // A reason's word is due, after so many assumptions.
-pub fn read_reason_word(text: &[u8], s: Step, assumed: usize, index: &mut [u16]) -> Step
-    ensures follows { (vs : List ℤ) (rs : List ℕ) → Follows Always (λ _. symbol (choice reason_cell reason_words (λ w. is_asm w && leb most_assumptions assumed))) (the reason_cell) text.now s index.old vs rs index.new vs rs result }
-    ensures refuses { Refuses (NoCell index.old) (choice reason_cell reason_words (λ w. is_asm w && leb most_assumptions assumed)) text.now s (index.new ≡ index.old) result }
+pub fn read_reason_word(text: &[u8], cursor: Cursor, assumed: usize, index: &mut [u16]) -> Step
+    ensures follows { (vs : List ℤ) (rs : List ℕ) → Follows Always (symbol (choice reason_cell reason_words (λ w. is_asm w && leb most_assumptions assumed))) (the reason_cell) text.now cursor index.old vs rs index.new vs rs result }
+    ensures refuses { Refuses (NoCell index.old) (choice reason_cell reason_words (λ w. is_asm w && leb most_assumptions assumed)) text.now cursor (index.new ≡ index.old) result }
 {
-    let t = tokens::due(text, s);
-    let s = tokens::passed(s, t, reason_in(text, t, assumed));
-    stores::filled(s, t.from, index)
+    let token = tokens::due(text, cursor)?;
+    let meaning = reason_in(tokens::bytes(text, token), assumed);
+    stores::filled(cursor, token, meaning, index)
 }

@@ -1,8 +1,14 @@
 -- `symbol_reader::names::read_name` meets its contract: a name takes nothing.
+-- Assumes nothing.
 use mathlib.Core.Path.{refl}
-use Rattle.symbol_reader.proofs.TokenLaws.{tested, passed_follows}
+use Rattle.symbol_reader.proofs.Decoding.{means_at}
+use Rattle.symbol_reader.proofs.TokenLaws.{missing_follows, passed_follows}
 use Rattle.symbol_reader.proofs.names.read_name.Goals as goal
+
+pub returns-in_err-token : goal.returns-in_err-token
+returns-in_err-token c = λ ix vs rs. missing_follows c.in_err-token.ensures c.from_residual.ensures.1
 
 pub returns : goal.returns
 returns c =
-    λ ix vs rs. passed_follows (tested c.due-t.ensures (λ filled. c.name_in.ensures.means) c.passed.ensures) (λ a. refl) (λ a. refl) (λ a i v. refl)
+    λ ix vs rs.
+    passed_follows c.in_ok-token.ensures (means_at c.bytes.ensures (c.name_in.ensures.means _)) c.passed.ensures (λ a d. refl) (λ a. refl) (λ a. refl) (λ a i v. refl)

@@ -1,17 +1,23 @@
 -- `symbol_reader::numbers::read_index` meets its contract: a number, which takes a cell.
-use mathlib.Core.Path.{refl, subst}
+-- Assumes nothing.
+use mathlib.Core.Path.{refl}
 use mathlib.Core.List.{[]}
-use Prim.Native.Nat.{ℕ, ◌<◌}
 use Rattle.symbol_reader.specs.Leaves.{token_at}
-use Rattle.symbol_reader.proofs.Decoding.{number_in_range}
-use Rattle.symbol_reader.proofs.TokenLaws.{tested, filled_follows, stored_refuses}
+use Rattle.symbol_reader.proofs.Decoding.{means_at, number_in_range}
+use Rattle.symbol_reader.proofs.TokenLaws.{missing_follows, token_filled, filled_follows, stored_refuses}
 use Rattle.symbol_reader.proofs.numbers.read_index.Goals as goal
+
+pub returns-in_err-token-clause-follows : goal.returns-in_err-token-clause-follows
+returns-in_err-token-clause-follows c = λ vs rs small. missing_follows c.in_err-token.ensures c.from_residual.ensures.1
 
 pub returns-clause-follows : goal.returns-clause-follows
 returns-clause-follows c =
+    let found = c.in_ok-token.ensures in
     λ vs rs small.
-    filled_follows (tested c.due-t.ensures (λ filled. c.number_in.ensures filled small) c.passed-s.ensures) (λ a k e h. (e, subst (λ (n : ℕ). n < c.args.bound) e (number_in_range c.args.bound [] (token_at c.args.text.now c.due-t.result) a h))) (λ a. refl) (λ a h. refl) (λ a i v. refl) c.filled.ensures
+    filled_follows found (means_at c.bytes.ensures (c.number_in-meaning.ensures _ (token_filled found c.bytes.ensures) small)) c.filled.ensures
+    (λ a d. (refl, number_in_range c.args.bound [] (token_at c.args.text.now c.in_ok-token.token) a d)) (λ a. refl) (λ a d. refl) (λ a i v. refl)
 
 pub returns-clause-refuses : goal.returns-clause-refuses
 returns-clause-refuses c =
-    λ small. stored_refuses (tested c.due-t.ensures (λ filled. c.number_in.ensures filled small) c.passed-s.ensures) c.filled.ensures (λ c found h. h) (λ e. e)
+    let found = c.in_ok-token.ensures in
+    λ small. stored_refuses found (means_at c.bytes.ensures (c.number_in-meaning.ensures _ (token_filled found c.bytes.ensures) small)) c.filled.ensures (λ h. h) (λ e. e)

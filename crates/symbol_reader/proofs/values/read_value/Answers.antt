@@ -1,23 +1,17 @@
 -- `symbol_reader::values::read_value` meets its contract: the token is read as a value, which is stored.
-use mathlib.Core.Path.{◌≡◌, refl, ap, ◌∙◌}
+-- Assumes nothing.
+use mathlib.Core.Path.{refl}
 use mathlib.Core.List.{[]}
-use Rattle.numerals.specs.Reading.{read_value}
-use Rattle.value.specs.Promise.{value_says}
-use Rattle.symbol_reader.specs.Leaves.{token_at}
-use Rattle.symbol_reader.proofs.Decoding.{value-means, value-kept}
-use Rattle.symbol_reader.proofs.TokenLaws.{tested, valued_follows, stored_refuses}
+use Rattle.symbol_reader.proofs.Decoding.{means_at}
+use Rattle.symbol_reader.proofs.TokenLaws.{missing_follows, valued_follows, stored_refuses}
 use Rattle.symbol_reader.proofs.values.read_value.Goals as goal
+
+pub returns-in_err-token-clause-by_index : goal.returns-in_err-token-clause-by_index
+returns-in_err-token-clause-by_index c = λ ix rs. missing_follows c.in_err-token.ensures c.from_residual.ensures.1
 
 pub returns-clause-by_index : goal.returns-clause-by_index
 returns-clause-by_index c =
-    let t = token_at c.args.text.now c.due-t.result in
-    let read : value_says c.read_value-answer.result ≡ read_value t.bytes = c.read_value-answer.ensures.by_definition ∙ ap read_value c.part.ensures.bytes in
-    let test = tested c.due-t.ensures (λ filled. value-means [] t c.read_value-answer.result read c.value_in.ensures) c.passed-s.ensures in
-    λ ix rs. valued_follows test (λ g. refl) (value-kept [] t c.read_value-answer.result read c.fraction_of.ensures) (λ g i v. refl) c.valued.ensures
+    λ ix rs. valued_follows c.in_ok-token.ensures (means_at c.bytes.ensures (c.value_in.ensures _ [])) c.valued.ensures (λ f. refl) (λ f d. refl) (λ f i v. refl)
 
 pub returns-clause-refuses : goal.returns-clause-refuses
-returns-clause-refuses c =
-    let t = token_at c.args.text.now c.due-t.result in
-    let read : value_says c.read_value-answer.result ≡ read_value t.bytes = c.read_value-answer.ensures.by_definition ∙ ap read_value c.part.ensures.bytes in
-    let test = tested c.due-t.ensures (λ filled. value-means [] t c.read_value-answer.result read c.value_in.ensures) c.passed-s.ensures in
-    stored_refuses test c.valued.ensures (λ c found h. h) (λ e. e)
+returns-clause-refuses c = stored_refuses c.in_ok-token.ensures (means_at c.bytes.ensures (c.value_in.ensures _ [])) c.valued.ensures (λ h. h) (λ e. e)

@@ -1,12 +1,17 @@
--- `symbol_reader::words::read_direction` meets its contract: one of the words, whose number takes a cell.
+-- `symbol_reader::words::read_direction` meets its contract: `min` or `max`, whose number takes a cell.
+-- Assumes nothing.
 use mathlib.Core.Path.{refl}
-use Rattle.symbol_reader.proofs.TokenLaws.{tested, filled_follows, stored_refuses}
+use Rattle.grammar.specs.Certificate.{direction_cell}
+use Rattle.symbol_reader.specs.Leaves.{directions}
+use Rattle.symbol_reader.proofs.Decoding.{means_at, choice_means}
+use Rattle.symbol_reader.proofs.TokenLaws.{missing_follows, filled_follows}
 use Rattle.symbol_reader.proofs.words.read_direction.Goals as goal
+
+pub returns-in_err-token-clause-follows : goal.returns-in_err-token-clause-follows
+returns-in_err-token-clause-follows c = λ vs rs. missing_follows c.in_err-token.ensures c.from_residual.ensures.1
 
 pub returns-clause-follows : goal.returns-clause-follows
 returns-clause-follows c =
-    λ vs rs. filled_follows (tested c.due-t.ensures (λ filled. c.direction_in.ensures) c.passed-s.ensures) (λ a k e d. e) (λ a. refl) (λ a d. refl) (λ a i v. refl) c.filled.ensures
-
-pub returns-clause-refuses : goal.returns-clause-refuses
-returns-clause-refuses c =
-    stored_refuses (tested c.due-t.ensures (λ filled. c.direction_in.ensures) c.passed-s.ensures) c.filled.ensures (λ c found h. h) (λ e. e)
+    λ vs rs.
+    filled_follows c.in_ok-token.ensures (means_at c.bytes.ensures (choice_means direction_cell directions _ c.choice_in-meaning.ensures)) c.filled.ensures (λ a d. refl) (λ a. refl) (λ a d. refl)
+    (λ a i v. refl)
