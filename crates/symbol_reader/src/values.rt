@@ -10,17 +10,16 @@ ghost use Rattle.symbol_reader.specs.Leaves.{Means, token_of, NoValue, NoEnd, or
 use crate::{Cursor, Step, stores, tokens};
 use arithmetic::Fraction;
 use grammar::Refusal;
-use value::ValueAnswer;
+use value::ValueError;
 
 // What a token means where a value is due.
 fn value_in(token: &[u8]) -> Result<Fraction, Refusal>
     ensures { (place : ℕ) (cells : List ℕ) → Means (F.value cells) (λ f. f) (token_of place token.now) result }
 {
-    match value::read_value(token) {
-        ValueAnswer::Value(f) => Ok(f),
-        ValueAnswer::TooWide => Err(Refusal::ValueTooWide),
-        ValueAnswer::NotAValue => Err(Refusal::WrongKind),
-    }
+    value::read_value(token).map_err(|error| match error {
+        ValueError::NotAValue => Refusal::WrongKind,
+        ValueError::TooWide => Refusal::ValueTooWide,
+    })
 }
 
 // A value is due, after a token that is none.
