@@ -3,13 +3,12 @@
 use mathlib.Core.Path.{◌≡◌, refl, sym, ap, ◌∙◌, subst}
 use mathlib.Core.Bool.{Bool, true, false, not, cond}
 use mathlib.Core.List.{List, [], ◌∷◌}
-use Rattle.std.specs.Prelude.{Some, None, Result, Ok, Err}
-use Prim.Native.Nat.{ℕ, suc, ◌≤◌, ◌<◌, min}
+use Rattle.std.specs.Prelude.{Result, Ok, Err}
+use Prim.Native.Nat.{ℕ, suc, ◌<◌}
 use native.Mathlib.Omega.{arith}
-use borrow.Author.Tests.{lt-ltb, le-ltb, ltb-true}
+use borrow.Author.Tests.{lt-ltb, ltb-true}
 use lib.Dec.{ltb, eqb}
-use lib.ListN.{length}
-use Rattle.text.specs.Bytes.{Bytes, same, every, is_digit, is_numeral, number_of}
+use Rattle.text.specs.Bytes.{Bytes, same, is_numeral, number_of}
 use Rattle.text.proofs.BytesLaws.{clash}
 use Rattle.text.specs.Tokens.{Token}
 use Rattle.arithmetic.specs.Outcome.{Outcome, gives, refuses}
@@ -19,10 +18,10 @@ use Rattle.grammar.specs.Reading.{is_among, is_name}
 use Rattle.grammar.specs.Reading.{meaning_of, chosen, unless, or_else, decode}
 use Rattle.grammar.specs.Layout.{symbol_values, symbol_marks}
 use Rattle.grammar.specs.declared.Refusal.{Refusal}
-use Rattle.grammar.specs.declared.Refusal.TheVariants.{WrongKind, OutOfRange, UsedBefore}
+use Rattle.grammar.specs.declared.Refusal.TheVariants.{UsedBefore}
 use Rattle.tables.specs.Limits.{largest}
 use Rattle.symbol_reader.specs.Follows.{cell_or}
-use Rattle.symbol_reader.specs.Leaves.{cell_of, numeral_of, bound_of, token_of, or_cell, Said, Means}
+use Rattle.symbol_reader.specs.Leaves.{cell_of, bound_of, token_of, or_cell, Said, Means}
 
 no : {A : Type 0} → ◌≡◌ {A = ℕ} 0 1 → A
 no z = absurd (omega arith)
@@ -33,50 +32,9 @@ means_at {y = y} {of} {place} {m = m} e h = subst (λ (w : Bytes). Means y of (t
 
 -- ---- numbers
 
-numeral_some : (w : Bytes) → 0 < length w → is_numeral w ≡ every is_digit w
-numeral_some [] h = absurd (omega arith)
-numeral_some (b ∷ w) h = refl
-
--- the bound of a count: within what a cell holds, and beyond
+-- the bound of a count, within what a cell holds
 pub bound_within : (n : ℕ) → n < largest → bound_of n ≡ suc n
 bound_within n h = rw (lt-ltb n largest h)
-
-pub bound_beyond : (n : ℕ) → largest ≤ n → bound_of n ≡ largest
-bound_beyond n h = rw (le-ltb n largest h)
-
-spelled_digits : (w : Bytes) (n : ℕ) → numeral_of w ≡ Some n → (every is_digit w ≡ true) × (min (number_of w) largest ≡ n)
-spelled_digits w n e = go (every is_digit w) refl e
-  where
-    go : (b : Bool) → every is_digit w ≡ b → cond b (Some (min (number_of w) largest)) None ≡ Some n → (every is_digit w ≡ true) × (min (number_of w) largest ≡ n)
-    go true d e = (d, cc)
-    go false d e = no (cc)
-
-spelled_none : (w : Bytes) → numeral_of w ≡ None → every is_digit w ≡ false
-spelled_none w e = go (every is_digit w) refl e
-  where
-    go : (b : Bool) → every is_digit w ≡ b → cond b (Some (min (number_of w) largest)) None ≡ None → every is_digit w ≡ false
-    go true d e = no (cc)
-    go false d e = d
-
-module _ (bound place : ℕ) (bytes : Bytes) (filled : 0 < length bytes) where
-  digits_only : is_numeral bytes ≡ every is_digit bytes
-  digits_only = numeral_some bytes filled
-
-  pub number_none : numeral_of bytes ≡ None → Means (number bound []) (λ n. n) (token_of place bytes) (Err WrongKind)
-  number_none e = record { is = rw (digits_only, spelled_none bytes e) refl }
-
-  module _ (small : bound ≤ 65535) {n : ℕ} (e : numeral_of bytes ≡ Some n) where
-    pub number_beyond : bound ≤ n → Means (number bound []) (λ n. n) (token_of place bytes) (Err OutOfRange)
-    number_beyond h =
-        let d = spelled_digits bytes n e in
-        let k : bound ≤ number_of bytes = omega (arith, d.1) in
-        record { is = rw (digits_only, d.0, le-ltb (number_of bytes) bound k) refl }
-
-    pub number_taken : n < bound → Means (number bound []) (λ n. n) (token_of place bytes) (Ok n)
-    number_taken h =
-        let d = spelled_digits bytes n e in
-        let k : number_of bytes ≡ n = omega (arith, d.1) in
-        record { is = rw (digits_only, d.0, k, lt-ltb n bound h) refl }
 
 -- a number that is kept is below the bound
 pub number_in_range : (bound : ℕ) (used : List ℕ) (t : Token) (a : ℕ) → decode (number bound used) t ≡ gives a → a < bound
@@ -197,16 +155,6 @@ or_in_range w cell bound t (given a) n e d = (e, subst (λ (k : ℕ). k < bound)
 -- ---- names of rows
 
 module _ (row : ℕ) (used : List Bytes) (of : Token → ℕ) (t : Token) where
-  pub name_none : is_name t.bytes ≡ false → Means (row_name row used) of t (Err WrongKind)
-  name_none e = record { is = rw e refl }
-
-  module _ (e : is_name t.bytes ≡ true) where
-    pub name_used : is_among same t.bytes used ≡ true → Means (row_name row used) of t (Err UsedBefore)
-    name_used u = record { is = rw (e, u) refl }
-
-    pub name_taken : {n : ℕ} → is_among same t.bytes used ≡ false → of t ≡ n → Means (row_name row used) of t (Ok n)
-    name_taken u h = record { is = rw (e, u) h }
-
   -- what is kept is the token
   name_kept : (a : Token) → decode (row_name row used) t ≡ gives a → a ≡ t
   name_kept a e = go (is_name t.bytes) (is_among same t.bytes used) e

@@ -18,15 +18,6 @@ use Rattle.symbol_reader.specs.Marks.{marked, Fingerprinted}
 use Rattle.symbol_reader.proofs.MarksLaws.{among_more}
 use Rattle.symbol_reader.proofs.NamesLaws.{names-append}
 
--- ---- a fingerprint that is not marked
-
-pub none_of_them : {names : List Bytes} {words : List ℕ} (w : Bytes) → Fingerprinted names words → marked words (fingerprint_of w) ≡ false → is_among same w names ≡ false
-none_of_them {names} w p e = go (is_among same w names) refl
-  where
-    go : (t : Bool) → is_among same w names ≡ t → is_among same w names ≡ false
-    go true h = clash e (p.are w h)
-    go false h = h
-
 -- ---- one name more
 
 pub no_names : {words : List ℕ} → length words ≡ 1024 → Fingerprinted [] words

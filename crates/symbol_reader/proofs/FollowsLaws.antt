@@ -117,7 +117,3 @@ module _ {A : Type 0} {full : Cursor → Type 0} {y : Symbol A} {text : Bytes} {
   -- one that is handed on; more is known then of what is kept
   pub refuses_stop : {e : Stop} → r ≡ Err e → {z : Answer} → IsErrAnd z (λ x. x ≡ e) → {same' : Type 0} → (same → same') → Refuses full y text c same' z
   refuses_stop {e} was {z} up turn = record { is = λ f. let k = h.is f in (subst (Is (refused y (rest text c.at))) (was ∙ sym (handed_on z e up)) k.0, turn k.1) }
-
-  -- none was given
-  pub refuses_next : {x : Next} → r ≡ Ok x → {same' : Type 0} → Refuses full y text c same' (Ok x)
-  refuses_next e = record { is = λ f. absurd (subst (Is (refused y (rest text c.at))) e (h.is f).0) }

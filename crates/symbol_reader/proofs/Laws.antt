@@ -2,7 +2,6 @@
 -- Assumes nothing.
 use mathlib.Core.Path.{◌≡◌, refl, sym, ap, ◌∙◌, subst}
 use mathlib.Core.List.{List, [], ◌∷◌, ◌++◌}
-use mathlib.Core.Bool.{Bool, true, false, not}
 use Rattle.std.specs.Prelude.{Option, Some, None, Ok, Err}
 use Prim.Native.Nat.{ℕ, suc, ◌+◌, ◌-◌, ◌*◌, ◌≤◌, ◌<◌}
 use native.Mathlib.Nat.{add-zero, sub-zero}
@@ -26,7 +25,7 @@ use Rattle.grammar.specs.declared.Stop.{Stop}
 use Rattle.symbol_reader.specs.Steps.{State, state, IndexRoom, ValueRoom, Room, one_of, tokens, Named, Went, Stopped, any, Answer, Answers, Reads}
 use Rattle.symbol_reader.specs.declared.Cursor.{Cursor}
 use Rattle.symbol_reader.specs.declared.Next.{Next}
-use Rattle.symbol_reader.proofs.Tables.{sets_append, slice_sets, turns_append, turns_length, laid-append, laid-length, named-append, gather_snoc, marks_snoc}
+use Rattle.symbol_reader.proofs.Tables.{sets_append, turns_append, turns_length, laid-append, laid-length, named-append, gather_snoc, marks_snoc}
 
 -- ---- what an answer that is known says
 
@@ -42,9 +41,6 @@ module _ {A : Type 0} {f : Format A} {told : A → ℕ → Type 0} {text : Bytes
 module _ {A : Type 0} {f : Format A} {told : A → ℕ → Type 0} {text : Bytes} {s : State} {ix : List ℕ} {vs : List ℤ} {rs : List ℕ} where
   pub reads_next : {a : A} {x : Next} → told a x.number → Went f a text s (state x.cursor ix vs rs) → Reads f told text s ix vs rs (Ok x)
   reads_next {a} e w = record { is = (a, e, w) }
-
-  pub reads_stop : {e : Stop} → Stopped f text s (refusal_number e.reason) e.place → Reads f told text s ix vs rs (Err e)
-  reads_stop h = record { is = h }
 
   -- an answer as it stands, where it is known to be a refusal
   pub reads_on : {r : Answer} {e : Stop} → r ≡ Err e → Stopped f text s (refusal_number e.reason) e.place → Reads f told text s ix vs rs r
@@ -152,9 +148,6 @@ module _ {A B : Type 0} {to : A → B} {from : B → A} {p : (a : A) → from (t
       by (Ok x) w = (to w.0, same w.0 x.number w.1, view_went w.2)
       by (Err e) h = view_stop h
 
-  pub view_any : {told : A → ℕ → Type 0} {ix : List ℕ} {vs : List ℤ} {rs : List ℕ} {r : Answer} → Reads f told text s ix vs rs r → Reads (view to from p q f) any text s ix vs rs r
-  view_any k = view_reads {tells = any} (λ a n h. tt) k
-
 -- ---- a symbol, found as the token from f to t
 
 module _ {A : Type 0} (y : Symbol A) (text : Bytes) (s : State) where
@@ -247,21 +240,6 @@ module _ {A : Type 0} {g : List A → Format A} {text : Bytes} where
   loop_first n h = (loop_start n h, refl)
 
   module _ {n k : ℕ} {s t : State} (l : Loop g n k text s t) where
-    pub loop_index-length : length t.index ≡ length s.index
-    loop_index-length = ap length l.index_is ∙ length-sets s.index s.cursor.cells (cells (items n g) l.done)
-
-    pub loop_values-length : length t.values ≡ length s.values
-    loop_values-length = ap length l.values_is ∙ length-sets s.values (2 * s.cursor.values) (by_turns (values (items n g) l.done))
-
-    pub loop_rows-length : length t.rows ≡ length s.rows
-    loop_rows-length = ap length l.rows_is ∙ laid-length (marks (items n g) l.done s.cursor.cells s.cursor.values) s.rows
-
-    -- the cells written by the loop
-    pub loop_cells : Room text s → slice s.cursor.cells t.cursor.cells t.index ≡ cells (items n g) l.done
-    loop_cells h =
-        (λ i. slice s.cursor.cells (l.cells_at i) (l.index_is i))
-        ∙ slice_sets (cells (items n g) l.done) s.index s.cursor.cells (omega (arith, l.cells_at, l.room.of_index.cells_fit, l.room.of_index.inside, h.of_index.index_long, h.of_index.short))
-
     pub loop_done : n ≤ k → Went (items n g) l.done text s t
     loop_done h =
         record {
@@ -342,11 +320,3 @@ index_inside h r = omega (arith, h.ahead, h.not-empty, h.inside, r.short, r.cell
 -- a value more fits the value table, where it has room
 pub value_inside : {text : Bytes} {c : Cursor} {values : List ℤ} {f t : ℕ} → Found text c.at f t → ValueRoom text c values → 4 * c.values + 2 ≤ c.at → 2 * c.values + 2 ≤ length values
 value_inside h r left = omega (arith, left, r.values_long, r.short, h.ahead, h.not-empty, h.inside)
-
-pub not-true : (b : Bool) → not b ≡ true → b ≡ false
-not-true true e = sym e
-not-true false e = refl
-
-pub not-false : (b : Bool) → not b ≡ false → b ≡ true
-not-false true e = refl
-not-false false e = sym e

@@ -12,7 +12,7 @@ use Rattle.text.specs.Tokens.{Token}
 use Rattle.grammar.specs.Format.{Or, instead, given, Symbol, row_name, or, Format, symbol, then, items, nothing, view}
 use Rattle.grammar.specs.Layout.{cells, values, Mark, symbol_marks, marks_items, marks}
 use Rattle.grammar.specs.Tables.{row_of, laid}
-use Rattle.symbol_reader.specs.Steps.{State, name_at, Named, Went}
+use Rattle.symbol_reader.specs.Steps.{State, name_at, Named}
 use Rattle.symbol_reader.specs.Leaves.{names_in}
 use Rattle.symbol_reader.proofs.Tables.{sets_append}
 use Rattle.symbol_reader.proofs.Laws.{Loop}
@@ -102,13 +102,6 @@ laid_beyond r (m ∷ ms) table h =
 pub record OneMark {A : Type 0} (f : Format A) (own : ℕ) (name : A → Token) : Type 0 where
   pub is : (a : A) (i v : ℕ) → marks f a i v ≡ record { row = own; name = name a; cells = i; values = v } ∷ []
 
--- reading it leaves the rows before its own as they were
-pub one_keeps : {A : Type 0} {f : Format A} {own : ℕ} {name : A → Token} → OneMark f own name → {a : A} {text : Bytes} {s t : State} → Went f a text s t → slice 0 (4 * own) t.rows ≡ slice 0 (4 * own) s.rows
-one_keeps {own = own} {name} h {a} {s = s} w =
-    let mark : Mark = record { row = own; name = name a; cells = s.cursor.cells; values = s.cursor.values } in
-    ap (slice 0 (4 * own)) (w.rows_is ∙ ap (laid s.rows) (h.is a s.cursor.cells s.cursor.values))
-    ∙ laid_beyond own (mark ∷ []) s.rows (omega arith, tt)
-
 -- each item has one mark: their rows are r, r + 1, ..
 pub record Marked {A : Type 0} (g : List A → Format A) (r : ℕ) (name : A → Token) : Type 0 where
   pub one : (before : List A) → OneMark (g before) (r + length before) name
@@ -160,12 +153,6 @@ module _ {A : Type 0} {g : List A → Format A} {r : ℕ} {name : A → Token} (
   loop_names {n} {k} {text} {s} {t} l fits =
       (λ i. names_in text (slice 0 (4 * (r + sym l.count i)) (l.rows_is i)))
       ∙ marked-laid n l.done s.cursor.cells s.cursor.values text s.rows l.named (omega (arith, l.count))
-
-  pub went_names : {n : ℕ} {xs : List A} {text : Bytes} {s t : State} → Went (items n g) xs text s t → 4 * (r + length xs) ≤ length s.rows
-      → names_in text (slice 0 (4 * (r + length xs)) t.rows) ≡ names_in text (slice 0 (4 * r) s.rows) ++ map (λ (x : A). (name x).bytes) xs
-  went_names {n} {xs} {text} {s} {t} w fits =
-      ap (λ (table : List ℕ). names_in text (slice 0 (4 * (r + length xs)) table)) w.rows_is
-      ∙ marked-laid n xs s.cursor.cells s.cursor.values text s.rows w.named fits
 
 -- ---- formats with no marks
 

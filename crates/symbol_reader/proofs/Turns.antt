@@ -1,16 +1,16 @@
 -- What one turn of each loop does to the definition that the loop works out.
 -- Assumes nothing.
 use mathlib.Core.Path.{◌≡◌, refl, sym, ap, ◌∙◌, subst}
-use mathlib.Core.Bool.{Bool, true, false, cond, ◌&&◌, ◌||◌}
+use mathlib.Core.Bool.{Bool, true, false, cond, ◌&&◌}
 use mathlib.Core.List.{List, [], ◌∷◌}
 use Rattle.std.specs.Prelude.{Option, Some, None}
 use Prim.Native.Nat.{ℕ, ◌+◌, ◌-◌, ◌*◌, ◌≤◌, ◌<◌, min}
 use native.Mathlib.Numerals.{add-one}
 use native.Mathlib.Omega.{arith}
-use lib.Dec.{leb, eqb}
-use lib.ListN.{length, get_or, take, length-take, drop_of_length-le}
+use lib.Dec.{leb}
+use lib.ListN.{length, get_or}
 use lib.Seq.{slice, slice-cons}
-use borrow.Author.Tests.{le-leb, lt-leb, leb-true, leb-false}
+use borrow.Author.Tests.{leb-true, leb-false}
 use Rattle.std.specs.Char.{is_ascii_digit, is_ascii_graphic}
 use Rattle.std.specs.List.{list_all}
 use Rattle.text.specs.Bytes.{Bytes, every, same, is_digit, is_printable, number_after}
@@ -26,9 +26,6 @@ pub record Left {B : Type 0} (F : List ℕ → B) (l : List ℕ) (i to : ℕ) (a
   pub is : F (slice i to l) ≡ answer
 
 module _ {B : Type 0} {F : List ℕ → B} {l : List ℕ} {i to : ℕ} {answer : B} (left : Left F l i to answer) where
-  pub all_done : to ≤ i → F [] ≡ answer
-  all_done h = let k : length (take to l) ≤ i = omega (arith, length-take to l) in ap F (sym (drop_of_length-le (take to l) k)) ∙ left.is
-
   module _ (h : i < to) (k : to ≤ length l) where
     -- the element at i is taken in
     pub one_on : Left (λ xs. F (get_or l i 0 ∷ xs)) l (i + 1) to answer
@@ -42,31 +39,9 @@ module _ {B : Type 0} {F : List ℕ → B} {l : List ℕ} {i to : ℕ} {answer :
     pub settled : {a : B} → ((xs : List ℕ) → F (get_or l i 0 ∷ xs) ≡ a) → a ≡ answer
     settled e = sym (e (slice (i + 1) to l)) ∙ one_on.is
 
--- ---- a number among others
+-- ---- tests, as a chain and the methods of bytes give them
 
--- what was found, or is one of the first and of the others
-pub found_or : (found : Bool) (x y : ℕ) (xs : List ℕ) → found || is_among eqb x (y ∷ xs) ≡ (found || eqb x y) || is_among eqb x xs
-found_or true x y xs = refl
-found_or false x y xs = go (eqb x y)
-  where
-    go : (t : Bool) → cond t true (is_among eqb x xs) ≡ t || is_among eqb x xs
-    go true = refl
-    go false = refl
-
--- ---- a byte between two bounds
-
-module _ (low high b : ℕ) where
-  pub is_below : b < low → leb low b && leb b high ≡ false
-  is_below h = rw (lt-leb low b h)
-
-  module _ (g : low ≤ b) where
-    pub is_above : high < b → leb low b && leb b high ≡ false
-    is_above h = rw (le-leb low b g, lt-leb b high h)
-
-    pub is_between : b ≤ high → leb low b && leb b high ≡ true
-    is_between h = rw (le-leb low b g, le-leb b high h)
-
--- every element passes, as a chain finds it
+-- every element passes
 pub all_every : (test : ℕ → Bool) (w : Bytes) → list_all test w ≡ every test w
 all_every test [] = refl
 all_every test (b ∷ w) = ap (λ (t : Bool). test b && t) (all_every test w)
@@ -101,12 +76,6 @@ number_capped n w = go (leb n largest) refl
 
 pub numeral_digit : (n b : ℕ) (w : Bytes) → is_digit b ≡ true → numeral_after n (b ∷ w) ≡ numeral_after (min (n * 10 + (b - 48)) largest) w
 numeral_digit n b w e = rw e (ap (λ (k : ℕ). cond (every is_digit w) (Some k) None) (number_capped (n * 10 + (b - 48)) w))
-
--- a byte before the digits is none
-pub numeral_stops : (n i to : ℕ) (text : List ℕ) → i < to → to ≤ length text → get_or text i 0 < 48 → numeral_after n (slice i to text) ≡ None
-unfolding is_digit
-numeral_stops n i to text h k below =
-    sym (settled {F = numeral_after n} {answer = numeral_after n (slice i to text)} (record { is = refl }) h k (λ w. rw (is_below 48 57 (get_or text i 0) below)))
 
 -- ---- a name among those of a row table, four cells for each row
 
