@@ -8,6 +8,7 @@ use crate::tokens::{no_room, refused};
 use crate::{Cursor, Next, Step};
 use arithmetic::Fraction;
 use grammar::Refusal;
+use tables::words;
 use text::Token;
 
 // The number of a token takes an index cell.
@@ -87,10 +88,10 @@ pub(crate) fn ended(
     if index.len() <= cells || values.len() / 2 <= v {
         return Err(no_room(token));
     }
-    index[cells] = 1;
+    index[cells] = words::FINITE as u16;
     store_value(values, v, value);
     Ok(Next {
-        number: 1,
+        number: words::FINITE,
         cursor: Cursor {
             at: token.to + 1,
             cells: cells + 1,

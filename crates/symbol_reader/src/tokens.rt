@@ -27,6 +27,13 @@ pub(crate) fn bytes(text: &[u8], token: Token) -> &[u8]
     text::part(text, token.from, token.to)
 }
 
+// Its bytes are the word, byte for byte, case included.
+pub(crate) fn is(token: &[u8], word: &[u8]) -> bool
+    ensures { result ≡ same token.now word.now }
+{
+    token == word
+}
+
 // Its refusal.
 pub(crate) fn refused(token: Token, reason: Refusal) -> Stop
     ensures { result ≡ stop reason token.from }
@@ -54,11 +61,4 @@ pub(crate) fn passed(cursor: Cursor, token: Token, meaning: Result<u16, Refusal>
         number: usize::from(number),
         cursor: cursor.past(token),
     })
-}
-
-// They are the word, byte for byte, case included.
-pub(crate) fn is(token: &[u8], word: &[u8]) -> bool
-    ensures { result ≡ same token.now word.now }
-{
-    token == word
 }

@@ -10,6 +10,7 @@ ghost use Rattle.symbol_reader.specs.Leaves.{Means, token_of, NoValue, NoEnd, or
 use crate::{Cursor, Step, stores, tokens};
 use arithmetic::Fraction;
 use grammar::Refusal;
+use tables::words;
 use value::ValueError;
 
 // What a token means where a value is due.
@@ -46,7 +47,7 @@ pub fn read_end(
     let token = tokens::due(text, cursor)?;
     let bytes = tokens::bytes(text, token);
     if tokens::is(bytes, word) {
-        return stores::filled(cursor, token, Ok(0), index);
+        return stores::filled(cursor, token, Ok(words::INFINITE as u16), index);
     }
     stores::ended(cursor, token, value_in(bytes), index, values)
 }
