@@ -1,22 +1,19 @@
--- Fingerprints of names: equal names have equal ones, so a name whose fingerprint is not marked is none of them; and one name
--- more.
+-- Fingerprints of names, as they are marked: of none, and of one name more.
 -- Assumes nothing.
 use mathlib.Core.Path.{◌≡◌, refl, sym, ap, ◌∙◌}
 use mathlib.Core.Bool.{Bool, true, false, ◌||◌}
-use mathlib.Core.List.{List, [], ◌∷◌, ◌++◌, append-nil}
-use Prim.Native.Nat.{ℕ, ◌+◌, ◌*◌, ◌/◌, ◌%◌, ◌<◌, min}
+use mathlib.Core.List.{List, [], ◌∷◌, ◌++◌}
+use Prim.Native.Nat.{ℕ, ◌+◌, ◌*◌, ◌%◌, ◌<◌}
 use native.Mathlib.Omega.{arith}
-use borrow.Author.Tests.{eq-eqb, leb-true, leb-false}
-use lib.Dec.{eqb, leb}
-use lib.ListN.{length, take, drop, length-drop, take-append-drop}
-use lib.Seq.{slice, take_all, length-take-le}
+use borrow.Author.Tests.{eq-eqb}
+use lib.Dec.{eqb}
+use lib.ListN.{length}
 use Rattle.text.specs.Bytes.{Bytes, same}
 use Rattle.text.proofs.BytesLaws.{same_true, clash}
 use Rattle.grammar.specs.Reading.{is_among}
-use Rattle.symbol_reader.specs.Leaves.{names_in, fingerprint_after, fingerprint_of}
+use Rattle.symbol_reader.specs.Leaves.{fingerprint_after, fingerprint_of}
 use Rattle.symbol_reader.specs.Marks.{marked, Fingerprinted}
 use Rattle.symbol_reader.proofs.MarksLaws.{among_more}
-use Rattle.symbol_reader.proofs.NamesLaws.{names-append}
 
 -- ---- one name more
 
@@ -42,31 +39,3 @@ one_more {names} {words} {words'} v p e h =
         or-true : (t : Bool) → t || true ≡ true
         or-true true = refl
         or-true false = refl
-
--- ---- the rows that a table has
-
-no_row : (text : Bytes) (l : List ℕ) → length l < 4 → names_in text l ≡ []
-no_row text [] h = refl
-no_row text (p ∷ []) h = refl
-no_row text (p ∷ l ∷ []) h = refl
-no_row text (p ∷ l ∷ c ∷ []) h = refl
-no_row text (p ∷ l ∷ c ∷ v ∷ xs) h = absurd (omega arith)
-
-pub names_there : (text : Bytes) (rows : List ℕ) (count : ℕ) → names_in text (slice 0 (4 * min count (length rows / 4)) rows) ≡ names_in text (slice 0 (4 * count) rows)
-names_there text rows count = go (leb count (length rows / 4)) refl
-  where
-    all : ℕ
-    all = length rows / 4
-
-    go : (t : Bool) → leb count (length rows / 4) ≡ t → names_in text (slice 0 (4 * min count (length rows / 4)) rows) ≡ names_in text (slice 0 (4 * count) rows)
-    go true h = let e : min count (length rows / 4) ≡ count = omega (arith, leb-true count (length rows / 4) h) in ap (λ (k : ℕ). names_in text (slice 0 (4 * k) rows)) e
-    go false h =
-        let l = leb-false count (length rows / 4) h in
-        let e : min count (length rows / 4) ≡ all = omega (arith, l) in
-        let short : length (drop (4 * all) rows) < 4 = omega (arith, length-drop (4 * all) rows) in
-        ap (λ (k : ℕ). names_in text (slice 0 (4 * k) rows)) e
-        ∙ sym
-        (ap (names_in text) (take_all (4 * count) rows (omega (arith, l)) ∙ sym (take-append-drop (4 * all) rows))
-        ∙ names-append text all (take (4 * all) rows) (drop (4 * all) rows) (length-take-le (4 * all) rows (omega arith))
-        ∙ ap (λ (names : List Bytes). names_in text (take (4 * all) rows) ++ names) (no_row text (drop (4 * all) rows) short)
-        ∙ append-nil (names_in text (take (4 * all) rows)))

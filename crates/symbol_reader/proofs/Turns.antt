@@ -1,6 +1,6 @@
 -- What one turn of each loop does to the definition that the loop works out.
 -- Assumes nothing.
-use mathlib.Core.Path.{◌≡◌, refl, sym, ap, ◌∙◌, subst}
+use mathlib.Core.Path.{◌≡◌, refl, sym, ap, ◌∙◌}
 use mathlib.Core.Bool.{Bool, true, false, cond, ◌&&◌}
 use mathlib.Core.List.{List, [], ◌∷◌}
 use Rattle.std.specs.Prelude.{Option, Some, None}
@@ -13,11 +13,8 @@ use lib.Seq.{slice, slice-cons}
 use borrow.Author.Tests.{leb-true, leb-false}
 use Rattle.std.specs.Char.{is_ascii_digit, is_ascii_graphic}
 use Rattle.std.specs.List.{list_all}
-use Rattle.text.specs.Bytes.{Bytes, every, same, is_digit, is_printable, number_after}
-use Rattle.grammar.specs.Reading.{is_among}
+use Rattle.text.specs.Bytes.{Bytes, every, is_digit, is_printable, number_after}
 use Rattle.tables.specs.Limits.{largest}
-use Rattle.symbol_reader.specs.Steps.{name_at}
-use Rattle.symbol_reader.specs.Leaves.{names_in}
 
 -- ---- a loop through a part of a list
 
@@ -76,21 +73,3 @@ number_capped n w = go (leb n largest) refl
 
 pub numeral_digit : (n b : ℕ) (w : Bytes) → is_digit b ≡ true → numeral_after n (b ∷ w) ≡ numeral_after (min (n * 10 + (b - 48)) largest) w
 numeral_digit n b w e = rw e (ap (λ (k : ℕ). cond (every is_digit w) (Some k) None) (number_capped (n * 10 + (b - 48)) w))
-
--- ---- a name among those of a row table, four cells for each row
-
-abbrev pub is_name_in : Bytes → Bytes → List ℕ → Bool
-is_name_in text w cells = is_among same w (names_in text cells)
-
-module _ (text w : Bytes) (rows : List ℕ) (i count : ℕ) {answer : Bool} (left : Left (is_name_in text w) rows (4 * i) (4 * count) answer) (h : i < count) (k : 4 * count ≤ length rows) where
-  -- three of the row's cells are taken in
-  three_on : Left (λ xs. is_name_in text w (get_or rows (4 * i) 0 ∷ get_or rows (4 * i + 1) 0 ∷ get_or rows (4 * i + 1 + 1) 0 ∷ xs)) rows (4 * i + 1 + 1 + 1) (4 * count) answer
-  three_on = one_on (one_on (one_on left (omega arith) k) (omega arith) k) (omega arith) k
-
-  pub name_here : same w (name_at text (get_or rows (4 * i) 0) (get_or rows (4 * i + 1) 0)) ≡ true → true ≡ answer
-  name_here e = settled three_on (omega arith) k (λ xs. rw e)
-
-  pub name_next : same w (name_at text (get_or rows (4 * i) 0) (get_or rows (4 * i + 1) 0)) ≡ false → Left (is_name_in text w) rows (4 * (i + 1)) (4 * count) answer
-  name_next e =
-      let n : 4 * i + 1 + 1 + 1 + 1 ≡ 4 * (i + 1) = omega arith in
-      subst (λ (m : ℕ). Left (is_name_in text w) rows m (4 * count) answer) n (goes_on three_on (omega arith) k (λ xs. rw e))

@@ -66,51 +66,44 @@ fn fingerprint(name: &[u8]) -> u16
     n
 }
 
-// The token is the name that the table has for one of the rows below `count`.
-fn is_named(text: &[u8], token: &[u8], rows: &[u16], count: usize) -> bool
-    requires { 4 * count ≤ length rows.now }
-    ensures { result ≡ is_among same token.now (names_in text.now (slice 0 (4 * count) rows.now)) }
+// The rows below `row` that the table has.
+fn rows_below(rows: &[u16], row: usize) -> &[u16]
+    ensures { result.now ≡ slice 0 (4 * row) rows.now }
 {
-    for i in 0..count {
-        let place = usize::from(rows[4 * i]);
-        let size = usize::from(rows[4 * i + 1]);
+    &rows[..row.saturating_mul(4).min(rows.len())]
+}
+
+// The token is a name that one of these rows has.
+fn is_named(text: &[u8], token: &[u8], mut rows: &[u16]) -> bool
+    ensures { result ≡ is_among same token.now (names_in text.now rows.entry.now) }
+{
+    while let [place, size, _, _, others @ ..] = rows {
+        let place = usize::from(*place);
+        let size = usize::from(*size);
         if tokens::is(token, text::part(text, place, place + size)) {
             return true;
         }
+        rows = others;
     }
     false
 }
 
-// The same for the rows that the table has, where the names of those have their fingerprints marked, and the token has this one.
-fn is_used(
-    text: &[u8],
-    token: &[u8],
-    rows: &[u16],
-    count: usize,
-    prints: &[u64],
-    print: u16,
-) -> bool
-    ensures { print ≡ fingerprint_of token.now → Fingerprinted (names_in text.now (slice 0 (4 * count) rows.now)) prints.now → result ≡ is_among same token.now (names_in text.now (slice 0 (4 * count) rows.now)) }
+// The same, where the names of these rows have their fingerprints marked, and the token has this one.
+fn is_used(text: &[u8], token: &[u8], rows: &[u16], prints: &[u64], print: u16) -> bool
+    ensures { print ≡ fingerprint_of token.now → Fingerprinted (names_in text.now rows.now) prints.now → result ≡ is_among same token.now (names_in text.now rows.now) }
 {
-    marks::is_marked(prints, usize::from(print))
-        && is_named(text, token, rows, count.min(rows.len() / 4))
+    marks::is_marked(prints, usize::from(print)) && is_named(text, token, rows)
 }
 
-// What a token means where the name of the row `row` is due.
-fn row_name_in(
-    text: &[u8],
-    token: &[u8],
-    row: usize,
-    rows: &[u16],
-    prints: &[u64],
-) -> Result<u16, Refusal>
-    ensures { (place : ℕ) → Fingerprinted (names_in text.now (slice 0 (4 * row) rows.now)) prints.now → Means (row_name row (names_in text.now (slice 0 (4 * row) rows.now))) (λ a. fingerprint_of a.bytes) (token_of place token.now) result }
+// What a token means where a name is due that none of these rows has.
+fn row_name_in(text: &[u8], token: &[u8], rows: &[u16], prints: &[u64]) -> Result<u16, Refusal>
+    ensures { (place row : ℕ) → Fingerprinted (names_in text.now rows.now) prints.now → Means (row_name row (names_in text.now rows.now)) (λ a. fingerprint_of a.bytes) (token_of place token.now) result }
 {
     if !is_name(token) {
         return Err(Refusal::WrongKind);
     }
     let print = fingerprint(token);
-    if is_used(text, token, rows, row, prints, print) {
+    if is_used(text, token, rows, prints, print) {
         return Err(Refusal::UsedBefore);
     }
     Ok(print)
@@ -129,7 +122,12 @@ pub fn read_row_name(
     ensures refuses { Fingerprinted (names_in text.now (slice 0 (4 * row) rows.old)) prints.old → Refuses (NoRow row rows.old) (row_name row (names_in text.now (slice 0 (4 * row) rows.old))) text.now cursor ((rows.new ≡ rows.old) × (prints.new ≡ prints.old)) result }
 {
     let token = tokens::due(text, cursor)?;
-    let meaning = row_name_in(text, tokens::bytes(text, token), row, rows, prints);
+    let meaning = row_name_in(
+        text,
+        tokens::bytes(text, token),
+        rows_below(rows, row),
+        prints,
+    );
     let next = stores::rowed(cursor, token, meaning, row, rows)?;
     marks::mark(prints, next.number);
     Ok(next)
