@@ -1,7 +1,7 @@
 -- The ends of the claim, what it asks, and the last derived row.
 -- Assumes nothing.
 use mathlib.Core.Path.{◌≡◌, refl, sym, ◌∙◌, ap, ap₂, subst}
-use mathlib.Core.Bool.{Bool, true, false, not, ◌&&◌}
+use mathlib.Core.Bool.{Bool, true, false, ◌&&◌}
 use mathlib.Core.List.{List, [], ◌∷◌}
 use mathlib.Core.Option.{none, some}
 use Prim.Native.Nat.{ℕ, suc, ◌+◌, ◌-◌, ◌≤◌}
@@ -10,12 +10,11 @@ use native.Mathlib.Omega.{arith}
 use lib.IntN.{ℤ}
 use lib.ListN.{length, get_or}
 use Rattle.tables.specs.declared.Header.{Header}
-use Rattle.grammar.specs.Tree.{Direction, minimize, maximize, at_most, at_least, End, infinite, finite, Claim, infeas, range, Derivation, Tree}
+use Rattle.grammar.specs.Tree.{Direction, minimize, maximize, End, infinite, finite, Claim, infeas, range, Derivation, Tree}
 use Rattle.grammar.specs.Certificate.{claim_cell, of_claim}
 use Rattle.grammar.specs.Header.{is_maximize}
 use Rattle.rules.proofs.Tests.{not-true}
 use Rattle.rules.specs.Rows.{Constraint, constraint_of, objective_with, row_of, row_at}
-use Rattle.rules.specs.Solutions.{end_to_reach}
 use Rattle.rules.specs.Assumptions.{assumptions_of, is_empty}
 use Rattle.rules.specs.Claims.{Asked, nothing, absurdity, domination, asked_by, asked, last_from, last_row, last_passes, answers, is_proved, last_place}
 use Rattle.rules.specs.Sentence.Formed.{EndFormed}
@@ -26,26 +25,6 @@ use Rattle.encoding.proofs.ClaimsLaws.{end_formed, claim_word}
 use Rattle.claims.specs.Asked.{against, asked_says, meets}
 use Rattle.claims.specs.declared.proving.Asked as code
 use Rattle.claims.specs.declared.proving.Asked.TheVariants as ask
-
--- ---- ends
-
--- the end to reach is the upper one for min, the lower one for max
-pub to_reach : (d : Direction) (c : Claim) {m : Bool} → m ≡ is_maximize d → end_in (not m) c ≡ end_to_reach d c
-to_reach d c e = ap (λ (u : Bool). end_in (not u) c) e ∙ go d c
-  where
-    go : (d : Direction) (c : Claim) → end_in (not (is_maximize d)) c ≡ end_to_reach d c
-    go d infeas = refl
-    go minimize (range lower upper) = refl
-    go maximize (range lower upper) = refl
-
--- the sense of the bound to be proved
-pub at_most_asked : (d : Direction) {m : Bool} → m ≡ is_maximize d → m ≡ true → at_most ≡ against d
-at_most_asked minimize e f = not-true (sym e ∙ f)
-at_most_asked maximize e f = refl
-
-pub at_least_asked : (d : Direction) {m : Bool} → m ≡ is_maximize d → m ≡ false → at_least ≡ against d
-at_least_asked minimize e f = refl
-at_least_asked maximize e f = not-true (sym f ∙ e)
 
 -- ---- what is asked
 
@@ -121,10 +100,6 @@ last_of k d (e ∷ ds) =
     last_of (k + 1) e ds ∙ ap (λ (n : ℕ). some (n, get_or (e ∷ ds) (length ds) no_derivation)) q
 
 module _ {tree : Tree} {h : Header} {index : List ℕ} {values : List ℤ} {rows : List ℕ} (e : Encodes tree h index values rows) where
-  -- there is none
-  pub no_last : h.rows ≤ h.given → last_row tree ≡ none
-  no_last le = none_of _ tree.derivations.derivations (omega (arith, rows_are e))
-
   module _ {last : ℕ} (ge : h.given ≤ last) (at_end : last + 1 ≡ h.rows) where
     -- its index and its derivation
     the_last : last_row tree ≡ some (last, derivation_at tree (last - h.given))

@@ -45,11 +45,7 @@ fn asked_of(certificate: Certificate) -> Asked
 fn sense_asked(maximize: bool) -> Sense
     ensures { (d : Direction) → maximize ≡ is_maximize d → sense_is result ≡ against d }
 {
-    if maximize {
-        Sense::AtMost
-    } else {
-        Sense::AtLeast
-    }
+    senses::sense_towards(!maximize)
 }
 
 // Whether a row dominates OBJ with this bound: the row's coefficients in an array, the objective's as listed terms.
