@@ -3,7 +3,7 @@
 use mathlib.Core.Path.{◌≡◌, refl, sym, ◌∙◌, ap, subst}
 use mathlib.Core.Bool.{Bool, true, false, not, ◌&&◌}
 use mathlib.Core.List.{List, [], ◌∷◌}
-use Prim.Native.Nat.{ℕ, ◌+◌, ◌<◌}
+use Prim.Native.Nat.{ℕ, ◌+◌, ◌≤◌, ◌<◌}
 use lib.IntN.{ℤ}
 use lib.ListN.{get_or}
 use Rattle.arithmetic.specs.Fraction.{IsFraction}
@@ -14,23 +14,26 @@ use Rattle.tables.specs.Pairs.{pairs_in}
 use Rattle.grammar.specs.Tree.{Sense, Multiplier, Tree}
 use Rattle.rules.specs.Tests.{all_of}
 use Rattle.rules.specs.Values.{is_positive, is_negative}
-use Rattle.rules.specs.Result.{Result, bind, through}
-use Rattle.rules.specs.Rows.{terms_of, row_at}
+use Rattle.rules.specs.Result.{Result, done, refused, bind, through}
+use Rattle.rules.specs.Rows as rows
+use Rattle.rules.specs.Rows.{row_at}
 use Rattle.rules.specs.Combinations as rules
 use Rattle.rules.specs.Combinations.{signed, next_combination, combine}
 use Rattle.senses.specs.Signs.{signed_by, next_signs, none_negative, none_positive, SignsAre}
 use Rattle.senses.specs.declared.signs.Signs.{Signs}
-use Rattle.linear.specs.Lists.{terms_in}
+use Rattle.linear.specs.Lists.{terms_of}
 use Rattle.linear.specs.ListsLaws.{listed_from, listed_next, all-at, formed_below}
-use Rattle.linear.specs.Combinations.{within, combination_of, combination_says, HasFractions, Takes}
+use Rattle.std.specs.Prelude as code
+use Rattle.std.specs.Prelude.{Ok, Err, IfOk, IsErr}
+use Rattle.linear.specs.declared.rows.Row.{Row}
+use Rattle.tables.specs.Limits.{most_variables}
+use Rattle.linear.specs.Combinations.{combination_of, combination_says, HasFractions, Takes}
 use Rattle.linear.specs.declared.combinations.Combination.{Combination}
-use Rattle.encoding.specs.Places.{indices_at, values_at, a_multiplier}
-use Rattle.encoding.specs.Encodes.{EncodesRow, Encodes}
-use Rattle.encoding.specs.Rows.{RowIs}
-use Rattle.tables.specs.declared.Header.{Header}
-use Rattle.encoding.specs.declared.rows.ListedRow.{ListedRow}
-use Rattle.derivations.specs.Checks.{multipliers_in, MultipliersBelow}
-use Rattle.derivations.proofs.RowsLaws.{lists_row, terms_are, terms_formed, right_fraction}
+use Rattle.arithmetic.specs.declared.ArithmeticError.{ArithmeticError}
+use Rattle.encoding.specs.Places.{a_multiplier}
+use Rattle.encoding.specs.declared.Certificate.{Certificate}
+use Rattle.derivations.specs.Combining.{multipliers_in, MultipliersBelow}
+use Rattle.derivations.specs.Constraints.{Stands}
 
 -- multiplier k
 module _ (named : List ℕ) (factors : List ℤ) (n : ℕ) (below : MultipliersBelow n (multipliers_in named factors)) (k : ℕ) (lt : k < pairs_in named factors) where
@@ -83,7 +86,7 @@ signed_is tree m p q = λ i. signed_by (p i) (q i)
 
 -- one row more
 abbrev pub row_step : Tree → ℕ → rules.Combination → Multiplier → Result rules.Combination
-row_step tree place so_far m = next_combination place m.factor (terms_of tree (row_at tree m.row)) (row_at tree m.row).right so_far
+row_step tree place so_far m = next_combination place m.factor (rows.terms_of tree (row_at tree m.row)) (row_at tree m.row).right so_far
 
 -- a combination that fits, and that with the rows that are left gives that of all
 pub record Combining (tree : Tree) (all left : List Multiplier) (c : Combination) : Type 0 where
@@ -94,48 +97,35 @@ pub combining : (tree : Tree) (all : List Multiplier) {c : Combination} → comb
 unfolding combine
 combining tree all e h = record { fractions = h; same = λ place. ap (λ (s : rules.Combination). through (row_step tree place) s all) e }
 
--- what comes of the next row: by whether it fits
-pub record Stepped (tree : Tree) (all left : List Multiplier) (d : Combination) : Type 0 where
-  pub fractions : HasFractions d
+-- what comes of the next row
+pub record Stepped (tree : Tree) (all left : List Multiplier) (d : code.Result Combination ArithmeticError) : Type 0 where
+  pub fractions : IfOk d HasFractions
   pub says : (place : ℕ) → bind (combination_says place d) (λ (u : rules.Combination). through (row_step tree place) u left) ≡ combine tree place all
 
-module _ {tree : Tree} {h : Header} {index : List ℕ} {values : List ℤ} {rows : List ℕ} (e : Encodes tree h index values rows) (named : List ℕ) (factors : List ℤ)
-    (below : MultipliersBelow h.rows (multipliers_in named factors)) {k : ℕ} (lt : k < pairs_in named factors) where
-  abbrev this : Multiplier
-  this = a_multiplier (get_or named k 0) (fraction_at factors k)
-
-  -- by what fetching the row and its multiplier gives, and what the next combination says
-  pub stepped : {c : Combination} {all : List Multiplier} → c.fits ≡ true → Combining tree all (listed_from a_multiplier named factors k) c
-      → {x : ListedRow} {vs : List ℕ} {ps : List ℤ} {factor : Fraction} → (EncodesRow tree index values rows h.objective (get_or named k 0) (row_at tree (get_or named k 0)) → RowIs tree index values (row_at tree (get_or named k 0)) x)
-      → vs ≡ indices_at index x.terms → ps ≡ values_at values x.terms → factor ≡ fraction_at factors k → (d : Combination)
-      → (Takes c (terms_in vs ps) x.right factor → (place : ℕ) → combination_says place d ≡ bind (combination_says place c) (next_combination place factor (terms_in vs ps) x.right))
-      → (Takes c (terms_in vs ps) x.right factor → HasFractions d) → Stepped tree all (listed_from a_multiplier named factors (k + 1)) d
-  stepped {c} fits g {x} {vs} {ps} {factor} f i v q d says fractions =
-      let one = multiplier-below named factors h.rows below k lt in
-      let l = lists_row e this.row one.0 (f (e.row _ one.0)) in
-      let taken : Takes c (terms_in vs ps) x.right factor =
-      record { so_far = g.fractions; terms-below = formed_below _ 256 (terms_in vs ps) l.few (terms_formed l i v); right_is = right_fraction l; factor_is = subst IsFraction (sym q) one.1 } in
+-- by what fetching the row and its factor gives, and what the next combination says
+module _ {tree : Tree} (n : Certificate) (named : List ℕ) (factors : List ℤ) (below : MultipliersBelow n.header.rows (multipliers_in named factors)) {k : ℕ} (lt : k < pairs_in named factors) (few : n.header.variables ≤ most_variables) where
+  pub stepped : {all : List Multiplier} {c : Combination} → Combining tree all (listed_from a_multiplier named factors k) c → {x : Row} → Stands tree n (row_at tree (get_or named k 0)) x
+      → {factor : Fraction} → factor ≡ fraction_at factors k → (d : code.Result Combination ArithmeticError)
+      → (Takes c (terms_of x.terms) x.right factor → (place : ℕ) → combination_says place d ≡ next_combination place factor (terms_of x.terms) x.right (combination_of c))
+      → (Takes c (terms_of x.terms) x.right factor → IfOk d HasFractions) → Stepped tree all (listed_from a_multiplier named factors (k + 1)) d
+  stepped {all} {c} g {x} s {factor} q d says fractions =
+      let one = multiplier-below named factors n.header.rows below k lt in
+      let taken : Takes c (terms_of x.terms) x.right factor =
+      record { so_far = g.fractions; terms-below = formed_below _ most_variables (terms_of x.terms) few s.formed; right_is = s.fraction; factor_is = subst IsFraction (sym q) one.1 } in
       record {
         fractions = fractions taken;
         says = λ place.
             let rest : rules.Combination → Result rules.Combination = λ u. through (row_step tree place) u (listed_from a_multiplier named factors (k + 1)) in
             ap (λ (r : Result rules.Combination). bind r rest) (says taken place)
-            ∙ ap (λ (b : Bool). bind (bind (within place b (combination_of c)) (next_combination place factor (terms_in vs ps) x.right)) rest) fits
-            ∙ (λ j. bind (next_combination place (q j) (terms_are l i v j) (l.is.right_is j) (combination_of c)) rest)
+            ∙ (λ j. bind (next_combination place (q j) (s.terms_are j) (s.right_is j) (combination_of c)) rest)
             ∙ sym (ap (through (row_step tree place) (combination_of c)) (listed_next a_multiplier named factors k lt))
             ∙ g.same place;
       }
 
-module _ {tree : Tree} {all left : List Multiplier} (d : Combination) (s : Stepped tree all left d) where
-  by_fit : (place : ℕ) {b : Bool} → d.fits ≡ b → bind (within place b (combination_of d)) (λ (u : rules.Combination). through (row_step tree place) u left) ≡ combine tree place all
-  by_fit place f = sym (ap (λ (b : Bool). bind (within place b (combination_of d)) (λ (u : rules.Combination). through (row_step tree place) u left)) f) ∙ s.says place
+-- what `?` hands up
+pub wide_up : (place : ℕ) (z : code.Result Combination ArithmeticError) → IsErr z → refused 12 place ≡ combination_says place z
+wide_up place (Ok c) h = cc
+wide_up place (Err e) h = refl
 
-  pub combining_on : d.fits ≡ true → Combining tree all left d
-  combining_on f = record { fractions = s.fractions; same = λ place. by_fit place f }
-
-  pub combining_stop : (place : ℕ) → d.fits ≡ false → combination_says place d ≡ combine tree place all
-  combining_stop place f = ap (λ (b : Bool). within place b (combination_of d)) f ∙ by_fit place f
-
-pub combining_end : {tree : Tree} {all left : List Multiplier} {c : Combination} → left ≡ [] → Combining tree all left c → (place : ℕ) → c.fits ≡ true → combination_says place c ≡ combine tree place all
-combining_end {tree} {c = c} e g place f =
-    ap (λ (b : Bool). within place b (combination_of c)) f ∙ sym (ap (through (row_step tree place) (combination_of c)) e) ∙ g.same place
+pub combining_end : {tree : Tree} {all left : List Multiplier} {c : Combination} → left ≡ [] → Combining tree all left c → (place : ℕ) → done (combination_of c) ≡ combine tree place all
+combining_end {tree} {c = c} e g place = sym (ap (through (row_step tree place) (combination_of c)) e) ∙ g.same place

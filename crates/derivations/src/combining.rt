@@ -1,61 +1,70 @@
 // The multipliers of a reason: their signs, and the combination of the rows that they name.
-ghost use Rattle.std.specs.Prelude.{List, ◌≡◌, ℕ, ℤ};
-ghost use Rattle.tables.specs.declared.Header.{Header as HeaderOf};
+ghost use Rattle.std.specs.Prelude.{◌≡◌, ℕ, IfOk};
+ghost use Rattle.tables.specs.Pairs.{pairs_in};
 ghost use Rattle.grammar.specs.Tree.{Tree};
 ghost use Rattle.rules.specs.Combinations.{combine as combine_of};
 ghost use Rattle.senses.specs.Signs.{SignsAre};
 ghost use Rattle.linear.specs.Combinations.{combination_says, HasFractions};
-ghost use Rattle.encoding.specs.Encodes.{Encodes};
-ghost use Rattle.derivations.specs.Checks.{multipliers_in, MultipliersBelow};
+ghost use Rattle.encoding.specs.Places.{indices_at, values_at, multipliers_of};
+ghost use Rattle.encoding.specs.Encodes.{Holds};
+ghost use Rattle.derivations.specs.Combining.{multipliers_are, MultipliersBelow};
 
-use encoding::rows;
+use crate::constraints;
+use arithmetic::ArithmeticError;
+use encoding::Certificate;
 use linear::combinations::Combination;
 use senses::signs::Signs;
-use tables::Header;
 
-// The signs of the multipliers.
-pub(crate) fn signs_of(index: &[u16], rows: &[u16], named: &[u16], factors: &[i32]) -> Signs
-    ensures { (tree : Tree) (header : HeaderOf) (values : List ℤ) → Encodes tree header index.now values rows.now → MultipliersBelow header.rows (multipliers_in named.now factors.now) → SignsAre tree (multipliers_in named.now factors.now) result }
-{
-    let count = tables::pairs_in(named, factors);
-    let mut signs = Signs::none();
-    let mut k = 0;
-    while k < count {
-        let r = named[k] as usize;
-        let factor = tables::value_at(factors, k);
-        let sense = rows::sense_at(index, rows, r);
-        signs = signs.next(sense, factor);
-        k += 1;
-    }
-    signs
+// The multipliers of a reason, each a row and a factor; a factor is a numerator and a denominator, by turns.
+#[derive(Clone, Copy)]
+pub(crate) struct Multipliers<'a> {
+    pub rows: &'a [u16],
+    pub factors: &'a [i32],
 }
 
-// The combination of the rows, in order. Nothing is combined after the first result that is too wide.
-pub(crate) fn combine(
-    index: &[u16],
-    values: &[i32],
-    rows: &[u16],
-    header: Header,
-    named: &[u16],
-    factors: &[i32],
-) -> Combination
-    ensures says { (tree : Tree) → Encodes tree header index.now values.now rows.now → MultipliersBelow header.rows (multipliers_in named.now factors.now) → (place : ℕ) → combination_says place result ≡ combine_of tree place (multipliers_in named.now factors.now) }
-    ensures fractions { (tree : Tree) → Encodes tree header index.now values.now rows.now → MultipliersBelow header.rows (multipliers_in named.now factors.now) → HasFractions result }
-{
-    let count = tables::pairs_in(named, factors);
-    let mut done = Combination::empty();
-    let mut k = 0;
-    while k < count {
-        let r = named[k] as usize;
-        let factor = tables::value_at(factors, k);
-        let row = rows::row_at(index, values, rows, header.objective, r);
-        let variables = tables::indices_of(index, row.terms);
-        let parts = tables::values_of(values, row.terms);
-        done = done.next(variables, parts, row.right, factor);
-        if !done.fits {
-            return done;
+impl<'a> Multipliers<'a> {
+    // Those of row `own`.
+    pub fn of(certificate: Certificate<'a>, own: usize) -> Multipliers<'a>
+        ensures rows { result.rows.now ≡ indices_at certificate.entry.index.now (multipliers_of certificate.entry.index.now certificate.entry.rows.now own) }
+        ensures factors { result.factors.now ≡ values_at certificate.entry.values.now (multipliers_of certificate.entry.index.now certificate.entry.rows.now own) }
+    {
+        let pairs = certificate.multipliers(own);
+        Multipliers {
+            rows: tables::indices_of(certificate.index, pairs),
+            factors: tables::values_of(certificate.values, pairs),
         }
-        k += 1;
     }
-    done
+
+    // How many there are.
+    fn count(self) -> usize
+        ensures { result ≡ pairs_in self.entry.rows.now self.entry.factors.now }
+    {
+        tables::pairs_in(self.rows, self.factors)
+    }
+
+    // Their signs.
+    pub fn signs(self, certificate: Certificate) -> Signs
+        ensures { (tree : Tree) → Holds tree certificate.entry → MultipliersBelow certificate.entry.header.rows (multipliers_are self.entry) → SignsAre tree (multipliers_are self.entry) result }
+    {
+        let mut signs = Signs::none();
+        for k in 0..self.count() {
+            let sense = certificate.sense(self.rows[k] as usize);
+            signs = signs.next(sense, tables::value_at(self.factors, k));
+        }
+        signs
+    }
+
+    // The combination of the rows, in order. Nothing is combined after the first result that is too wide.
+    pub fn combine(self, certificate: Certificate) -> Result<Combination, ArithmeticError>
+        ensures says { (tree : Tree) → Holds tree certificate.entry → MultipliersBelow certificate.entry.header.rows (multipliers_are self.entry) → (place : ℕ) → combination_says place result ≡ combine_of tree place (multipliers_are self.entry) }
+        ensures fractions { (tree : Tree) → Holds tree certificate.entry → MultipliersBelow certificate.entry.header.rows (multipliers_are self.entry) → IfOk result HasFractions }
+    {
+        let mut made = Combination::empty();
+        for k in 0..self.count() {
+            let row = constraints::row_of(certificate, certificate.row(self.rows[k] as usize));
+            let factor = tables::value_at(self.factors, k);
+            made = made.next(row.terms, row.right, factor)?;
+        }
+        Ok(made)
+    }
 }

@@ -3,108 +3,86 @@
 // certificate is said of these.
 #![tactic(auto)]
 
-ghost use Rattle.std.specs.Prelude.{◌≡◌, List, ℕ, ◌+◌, ◌<◌, length};
+ghost use Rattle.std.specs.Prelude.{◌≡◌, List, ℕ, ◌+◌, ◌<◌, length, IfSome};
 ghost use Rattle.arithmetic.specs.Fraction.{IsFraction};
 ghost use Rattle.arithmetic.specs.declared.Fraction.{Fraction as Value};
 ghost use Rattle.grammar.specs.Tree.{Row, Derivation, Tree};
-ghost use Rattle.rules.specs.Result.{each_from};
+ghost use Rattle.grammar.specs.Refusals.{refusal_number};
+ghost use Rattle.rules.specs.Result.{require, each_from};
 ghost use Rattle.rules.specs.Solutions.{best_of};
 ghost use Rattle.rules.specs.Derivations.{check_reason, check_derivation};
-ghost use Rattle.encoding.specs.Places.{named_by};
-ghost use Rattle.encoding.specs.Encodes.{EncodesDerivation, derivation_at, Encodes};
+ghost use Rattle.encoding.specs.Encodes.{EncodesDerivation, derivation_at, Holds};
 ghost use Rattle.verdicts.specs.Verdicts.{verdict_says};
-ghost use Rattle.derivations.specs.Checks.{best_says, Checks, Lists};
+ghost use Rattle.derivations.specs.Checks.{best_says, BestIs, Checks, Lists};
 
 use arithmetic::Fraction;
-use encoding::integer_variables;
 use encoding::reasons::Word;
 use encoding::rows::ListedRow;
-use grammar::Refusal;
-use tables::Header;
+use encoding::{Certificate, integer_variables};
+use grammar::{Refusal, Stop};
 use verdicts::Verdict;
 
 mod combining;
+mod constraints;
 mod reasons;
 mod spent;
 
-// The row `own` by its reason, which names these rows.
-fn check_reason(
-    index: &[u16],
-    values: &[i32],
-    rows: &[u16],
-    header: Header,
-    integers: &[bool; 256],
-    any: bool,
-    best: Fraction,
-    own: usize,
-    row: ListedRow,
-    named: &[u16],
-) -> Verdict
-    ensures { (tree : Tree) (os : List Value) (r : Row) (d : Derivation) → Checks tree header index.now values.now rows.now integers.now → best_says any best ≡ best_of tree.objective.direction os → IsFraction best → Lists tree header.variables index.now values.now r row → own < header.rows → EncodesDerivation index.now values.now rows.now own d → named.now ≡ named_by index.now rows.now own → verdict_says result ≡ check_reason tree os r d.reason }
+// This refusal at a place, unless the test passes.
+fn require(test: bool, reason: Refusal, place: usize) -> Verdict
+    ensures { verdict_says result ≡ require test (refusal_number reason) place }
 {
-    match encoding::reasons::word_of(index, rows, own) {
-        Word::Asm => Verdict::Fine,
-        Word::Lin => reasons::check_combined(
-            index, values, rows, header, integers, own, row, false,
-        ),
-        Word::Rnd => reasons::check_combined(index, values, rows, header, integers, own, row, true),
-        Word::Uns => {
-            let i1 = tables::cell_at(named, 0);
-            let l1 = tables::cell_at(named, 1);
-            let i2 = tables::cell_at(named, 2);
-            let l2 = tables::cell_at(named, 3);
-            reasons::check_uns(index, values, rows, header, integers, row, i1, l1, i2, l2)
+    if test {
+        Ok(())
+    } else {
+        Err(Stop { reason, place })
+    }
+}
+
+// What derived rows are checked by: the certificate, which variables are integer, and the best objective of the listed
+// solutions, if there is any.
+#[derive(Clone, Copy)]
+struct Checker<'a> {
+    certificate: Certificate<'a>,
+    integers: [bool; 256],
+    best: Option<Fraction>,
+}
+
+impl<'a> Checker<'a> {
+    // The row `own` by its reason.
+    fn check_reason(&self, own: usize, row: ListedRow) -> Verdict
+        ensures { (tree : Tree) (os : List Value) (r : Row) (d : Derivation) → Checks tree self.now → BestIs tree os self.now.best → Lists tree self.now.certificate r row → own < self.now.certificate.header.rows → EncodesDerivation self.now.certificate.index.now self.now.certificate.values.now self.now.certificate.rows.now own d → verdict_says result ≡ check_reason tree os r d.reason }
+    {
+        match self.certificate.word(own) {
+            Word::Asm => Ok(()),
+            Word::Lin => self.check_lin(own, row),
+            Word::Rnd => self.check_rnd(own, row),
+            Word::Uns => self.check_uns(self.certificate.named(own), row),
+            Word::Sol => self.check_sol(row),
         }
-        Word::Sol => reasons::check_sol(index, values, header, row, any, best),
+    }
+
+    // The row `own`: "first 11, over the rows its reason names in order .. Then".
+    fn check_derivation(&self, own: usize) -> Verdict
+        ensures { (tree : Tree) (os : List Value) (k : ℕ) → Checks tree self.now → BestIs tree os self.now.best → own ≡ self.now.certificate.header.given + k → own < self.now.certificate.header.rows → verdict_says result ≡ check_derivation tree os own (derivation_at tree k) }
+    {
+        let row = self.certificate.row(own);
+        let unspent = spent::none_spent(self.certificate, own);
+        require(unspent, Refusal::RowSpent, row.place)?;
+        self.check_reason(own, row)
     }
 }
 
-// The row `own`: "first 11, over the rows its reason names in order .. Then".
-fn check_derivation(
-    index: &[u16],
-    values: &[i32],
-    rows: &[u16],
-    header: Header,
-    integers: &[bool; 256],
-    any: bool,
-    best: Fraction,
-    own: usize,
-) -> Verdict
-    ensures { (tree : Tree) (os : List Value) (k : ℕ) → Checks tree header index.now values.now rows.now integers.now → best_says any best ≡ best_of tree.objective.direction os → IsFraction best → own ≡ header.given + k → own < header.rows → verdict_says result ≡ check_derivation tree os own (derivation_at tree k) }
+// Each derived row in order. `best` is the best objective of the listed solutions, if there is any.
+pub fn check_derivations(certificate: Certificate, best: Option<Fraction>) -> Verdict
+    ensures { (tree : Tree) (os : List Value) → Holds tree certificate.entry → best_says best ≡ best_of tree.objective.direction os → IfSome best IsFraction → verdict_says result ≡ each_from (check_derivation tree os) (length tree.constraints.rows) tree.derivations.derivations }
 {
-    let row = encoding::rows::row_at(index, values, rows, header.objective, own);
-    let named = encoding::reasons::named_by(index, rows, own);
-    if !spent::none_spent(index, rows, header, own, named) {
-        return Verdict::Refused(Refusal::RowSpent, row.place);
+    let checker = Checker {
+        certificate,
+        integers: integer_variables::marks_of(certificate.integers()),
+        best,
+    };
+    for own in certificate.header.given..certificate.header.rows {
+        checker.check_derivation(own)?;
     }
-    check_reason(
-        index, values, rows, header, integers, any, best, own, row, named,
-    )
-}
-
-// Each derived row in order. `best` is the best objective of the listed solutions, if there is `any`.
-pub fn check_derivations(
-    index: &[u16],
-    values: &[i32],
-    rows: &[u16],
-    header: Header,
-    any: bool,
-    best: Fraction,
-) -> Verdict
-    ensures { (tree : Tree) (os : List Value) → Encodes tree header index.now values.now rows.now → best_says any best ≡ best_of tree.objective.direction os → IsFraction best → verdict_says result ≡ each_from (check_derivation tree os) (length tree.constraints.rows) tree.derivations.derivations }
-{
-    let integers = integer_variables::marks_of(integer_variables::integers_of(
-        index,
-        header.integers,
-    ));
-    let end = header.rows;
-    let mut own = header.given;
-    while own < end {
-        let v = check_derivation(index, values, rows, header, &integers, any, best, own);
-        let Verdict::Fine = v else {
-            return v;
-        };
-        own += 1;
-    }
-    Verdict::Fine
+    Ok(())
 }

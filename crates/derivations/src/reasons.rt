@@ -1,252 +1,127 @@
 // The reasons: what is asked of a derived row by each, 15 last.
-ghost use Rattle.std.specs.Prelude.{◌≡◌, List, map, ℕ, ◌<◌};
+ghost use Rattle.std.specs.Prelude.{◌≡◌, List, ◌<◌, IfOk, IfSome};
 ghost use Rattle.arithmetic.specs.Fraction.{IsFraction};
-ghost use Rattle.grammar.specs.Tree.{Row, Multiplier, uns, Tree};
+ghost use Rattle.grammar.specs.Tree.{Row as TreeRow, Multiplier, uns, Tree};
 ghost use Rattle.rules.specs.Tests.{All};
-ghost use Rattle.rules.specs.Result.{bind};
-ghost use Rattle.rules.specs.Rows.{variables, value_in, constraint_of, row_at};
+ghost use Rattle.rules.specs.Rows.{constraint_of, row_at};
 ghost use Rattle.rules.specs.Combinations.{suitable_combination};
 ghost use Rattle.rules.specs.Splits.{is_proper_split};
-ghost use Rattle.rules.specs.Derivations.{named, check_dominates, check_uns, check_sol};
-ghost use Rattle.rules.specs.Sentence.Formed.{Formed};
-ghost use Rattle.senses.specs.Senses.{constraint_by};
-ghost use Rattle.linear.specs.Coefficients.{coefficients_of, AreFractions, VariablesAre};
-ghost use Rattle.encoding.specs.Places.{terms_at, multipliers_of};
-ghost use Rattle.encoding.specs.Encodes.{EncodesMultipliers, Encodes};
+ghost use Rattle.rules.specs.Derivations.{named, check_dominates, check_lin, check_rnd, check_uns, check_sol};
+ghost use Rattle.encoding.specs.Encodes.{Holds};
 ghost use Rattle.verdicts.specs.Verdicts.{verdict_says};
-ghost use Rattle.derivations.specs.Checks.{best_says, Checks, Lists, concluded, unsplit_of};
+ghost use Rattle.derivations.specs.Checks.{best_says, Checks, Lists, HasMultipliers, unsplit_of};
+ghost use Rattle.derivations.specs.Constraints.{constraint_says, HaveFractions};
 
-use crate::combining;
-use arithmetic::Fraction;
+use crate::combining::Multipliers;
+use crate::constraints::Constraint;
+use crate::{Checker, constraints, require};
+use encoding::Certificate;
 use encoding::rows::ListedRow;
-use encoding::{reasons, rows};
-use grammar::Refusal;
-use linear::{domination, lists, rounding, splits};
-use senses::{Sense, right_sides};
-use tables::{Header, Pairs};
+use grammar::{Refusal, Stop};
+use linear::rows::Row;
+use senses::right_sides;
 use verdicts::Verdict;
-
-// ---- domination of the row
-
-// By the constraint of these coefficients of n variables, else 15.
-fn check_dominates<'a>(
-    index: &[u16],
-    values: &[i32],
-    n: usize,
-    row: ListedRow,
-    nums: &'a [i32; 256],
-    dens: &'a [i32; 256],
-    sense: Sense,
-    right: Fraction,
-) -> Verdict
-    ensures { (tree : Tree) (r : Row) → Lists tree n index.now values.now r row → AreFractions (coefficients_of nums.now dens.now) → IsFraction right → verdict_says result ≡ check_dominates tree (constraint_by (coefficients_of nums.now dens.now) sense right) r }
-{
-    let variables = tables::indices_of(index, row.terms);
-    let parts = tables::values_of(values, row.terms);
-    let compared = domination::compare(variables, parts, nums, dens, n);
-    let s = row.sense;
-    if compared.dominates(sense, right, s, row.right) {
-        Verdict::Fine
-    } else {
-        Verdict::Refused(Refusal::NoDomination, row.place)
-    }
-}
-
-// By the constraint of these terms, else 15.
-fn check_by_terms(
-    index: &[u16],
-    values: &[i32],
-    n: usize,
-    row: ListedRow,
-    terms: Pairs,
-    sense: Sense,
-    right: Fraction,
-) -> Verdict
-    ensures { (tree : Tree) (r : Row) → Lists tree n index.now values.now r row → Formed (variables tree) (terms_at index.now values.now terms) → IsFraction right → verdict_says result ≡ check_dominates tree (constraint_by (value_in (terms_at index.now values.now terms)) sense right) r }
-{
-    let variables = tables::indices_of(index, terms);
-    let parts = tables::values_of(values, terms);
-    let c = lists::coefficients_of(variables, parts);
-    check_dominates(index, values, n, row, &c.nums, &c.dens, sense, right)
-}
-
-// By row i, else 15.
-fn check_by_row(
-    index: &[u16],
-    values: &[i32],
-    rows: &[u16],
-    header: Header,
-    row: ListedRow,
-    i: usize,
-) -> Verdict
-    ensures { (tree : Tree) (r : Row) → Encodes tree header index.now values.now rows.now → Lists tree header.variables index.now values.now r row → i < header.rows → verdict_says result ≡ check_dominates tree (constraint_of tree (row_at tree i)) r }
-{
-    let by = rows::row_at(index, values, rows, header.objective, i);
-    let sense = by.sense;
-    check_by_terms(
-        index,
-        values,
-        header.variables,
-        row,
-        by.terms,
-        sense,
-        by.right,
-    )
-}
 
 // ---- **lin** and **rnd**
 
-// What is asked of the combination, which has these coefficients: 15 of `lin`, 14 and 15 of `rnd`, which rounds.
-fn check_made<'a>(
-    index: &[u16],
-    values: &[i32],
-    n: usize,
-    integers: &[bool; 256],
-    row: ListedRow,
-    nums: &'a [i32; 256],
-    dens: &'a [i32; 256],
-    sense: Sense,
-    right: Fraction,
-    rounds: bool,
-) -> Verdict
-    ensures { (tree : Tree) (r : Row) → VariablesAre tree n integers.now → Lists tree n index.now values.now r row → AreFractions (coefficients_of nums.now dens.now) → IsFraction right → verdict_says result ≡ concluded rounds tree r (constraint_by (coefficients_of nums.now dens.now) sense right) }
-{
-    if !rounds {
-        return check_dominates(index, values, n, row, nums, dens, sense, right);
-    }
-    let integral = rounding::is_integral(nums, dens, integers, n);
-    if !right_sides::can_be_rounded(sense, integral) {
-        return Verdict::Refused(Refusal::CannotBeRounded, row.place);
-    }
-    let rounded = right_sides::rounded_right(sense, right);
-    check_dominates(index, values, n, row, nums, dens, sense, rounded)
-}
-
-// "13, 12": the sign rule first, then the combination of the row `own`'s multipliers, and what is asked of it.
-pub(crate) fn check_combined(
-    index: &[u16],
-    values: &[i32],
-    rows: &[u16],
-    header: Header,
-    integers: &[bool; 256],
+// "13, 12": the sign rule first, then the combination of the row `own`'s multipliers, refused at this place.
+fn suitable_combination(
+    certificate: Certificate,
     own: usize,
-    row: ListedRow,
-    rounds: bool,
-) -> Verdict
-    ensures { (tree : Tree) (r : Row) (ms : List Multiplier) → Checks tree header index.now values.now rows.now integers.now → Lists tree header.variables index.now values.now r row → EncodesMultipliers index.now values.now (multipliers_of index.now rows.now own) ms → All (λ i. i < header.rows) (map (λ (m : Multiplier). m.row) ms) → verdict_says result ≡ bind (suitable_combination tree r.name.place ms) (concluded rounds tree r) }
+    place: usize,
+) -> Result<Constraint, Stop>
+    ensures says { (tree : Tree) (ms : List Multiplier) → Holds tree certificate.entry → HasMultipliers certificate.entry own ms → constraint_says result ≡ suitable_combination tree place ms }
+    ensures fractions { (tree : Tree) (ms : List Multiplier) → Holds tree certificate.entry → HasMultipliers certificate.entry own ms → IfOk result HaveFractions }
 {
-    let multipliers = reasons::multipliers_of(index, rows, own);
-    let named = tables::indices_of(index, multipliers);
-    let factors = tables::values_of(values, multipliers);
-    let signs = combining::signs_of(index, rows, named, factors);
-    if !signs.are_suitable() {
-        return Verdict::Refused(Refusal::MultipliersNotSuitable, row.place);
-    }
-    let made = combining::combine(index, values, rows, header, named, factors);
-    if !made.fits {
-        return Verdict::Refused(Refusal::ResultTooWide, row.place);
-    }
-    let sense = signs.sense();
-    let right = made.right;
-    check_made(
-        index,
-        values,
-        header.variables,
-        integers,
-        row,
-        &made.nums,
-        &made.dens,
-        sense,
-        right,
-        rounds,
-    )
+    let multipliers = Multipliers::of(certificate, own);
+    let signs = multipliers.signs(certificate);
+    let suitable = signs.are_suitable();
+    require(suitable, Refusal::MultipliersNotSuitable, place)?;
+    let Ok(made) = multipliers.combine(certificate) else {
+        return Err(Stop {
+            reason: Refusal::ResultTooWide,
+            place,
+        });
+    };
+    Ok(Constraint {
+        coefficients: made.coefficients,
+        sense: signs.sense(),
+        right: made.right,
+    })
 }
 
 // ---- **uns**
 
-// Whether rows l1 and l2 are a proper split.
-fn is_proper_split(
-    index: &[u16],
-    values: &[i32],
-    rows: &[u16],
-    header: Header,
-    integers: &[bool; 256],
-    l1: usize,
-    l2: usize,
-) -> bool
-    ensures { (tree : Tree) → Checks tree header index.now values.now rows.now integers.now → l1 < header.rows → l2 < header.rows → result ≡ is_proper_split tree l1 l2 }
+// Row i dominates, else 15.
+fn check_by_row(certificate: Certificate, row: ListedRow, i: usize) -> Verdict
+    ensures { (tree : Tree) (r : TreeRow) → Holds tree certificate.entry → Lists tree certificate.entry r row → i < certificate.entry.header.rows → verdict_says result ≡ check_dominates tree (constraint_of tree (row_at tree i)) r }
 {
-    let c = rows::row_at(index, values, rows, header.objective, l1);
-    let d = rows::row_at(index, values, rows, header.objective, l2);
-    let variables = tables::indices_of(index, c.terms);
-    let parts = tables::values_of(values, c.terms);
-    let variables2 = tables::indices_of(index, d.terms);
-    let parts2 = tables::values_of(values, d.terms);
-    let s = c.sense;
-    let t = d.sense;
-    splits::is_split(
-        variables,
-        parts,
-        s,
-        c.right,
-        variables2,
-        parts2,
-        t,
-        d.right,
-        integers,
-        header.variables,
-    )
+    let by = constraints::row_of(certificate, certificate.row(i));
+    Constraint::of_row(by).check_dominates(certificate, row)
 }
 
-// "else 16. Then each i row dominates, else 15".
-pub(crate) fn check_uns(
-    index: &[u16],
-    values: &[i32],
-    rows: &[u16],
-    header: Header,
-    integers: &[bool; 256],
-    row: ListedRow,
-    i1: usize,
-    l1: usize,
-    i2: usize,
-    l2: usize,
-) -> Verdict
-    ensures { (tree : Tree) (r : Row) → Checks tree header index.now values.now rows.now integers.now → Lists tree header.variables index.now values.now r row → All (λ i. i < header.rows) (named (uns (unsplit_of i1 l1 i2 l2))) → verdict_says result ≡ check_uns tree r (unsplit_of i1 l1 i2 l2) }
-{
-    if !is_proper_split(index, values, rows, header, integers, l1, l2) {
-        return Verdict::Refused(Refusal::NoProperSplit, row.place);
+impl<'a> Checker<'a> {
+    // "13, 12", then 15.
+    pub(crate) fn check_lin(&self, own: usize, row: ListedRow) -> Verdict
+        ensures { (tree : Tree) (r : TreeRow) (ms : List Multiplier) → Holds tree self.now.certificate → Lists tree self.now.certificate r row → HasMultipliers self.now.certificate own ms → verdict_says result ≡ check_lin tree r ms }
+    {
+        let made = suitable_combination(self.certificate, own, row.place)?;
+        made.check_dominates(self.certificate, row)
     }
-    let v = check_by_row(index, values, rows, header, row, i1);
-    let Verdict::Fine = v else {
-        return v;
-    };
-    check_by_row(index, values, rows, header, row, i2)
-}
 
-// ---- **sol**
-
-// "18, then 15", by the best objective, if there is any.
-pub(crate) fn check_sol(
-    index: &[u16],
-    values: &[i32],
-    header: Header,
-    row: ListedRow,
-    any: bool,
-    best: Fraction,
-) -> Verdict
-    ensures { (tree : Tree) (r : Row) (rows : List ℕ) → Encodes tree header index.now values.now rows → Lists tree header.variables index.now values.now r row → IsFraction best → verdict_says result ≡ check_sol tree (best_says any best) r }
-{
-    if !any {
-        return Verdict::Refused(Refusal::NoSolutionListed, row.place);
+    // "13, 12, then 14 ..; round; 15".
+    pub(crate) fn check_rnd(&self, own: usize, row: ListedRow) -> Verdict
+        ensures { (tree : Tree) (r : TreeRow) (ms : List Multiplier) → Checks tree self.now → Lists tree self.now.certificate r row → HasMultipliers self.now.certificate own ms → verdict_says result ≡ check_rnd tree r ms }
+    {
+        let made = suitable_combination(self.certificate, own, row.place)?;
+        let n = self.certificate.header.variables;
+        let integral = made.coefficients.is_integral(&self.integers, n);
+        let rounds = right_sides::can_be_rounded(made.sense, integral);
+        require(rounds, Refusal::CannotBeRounded, row.place)?;
+        let right = right_sides::rounded_right(made.sense, made.right);
+        Constraint { right, ..made }.check_dominates(self.certificate, row)
     }
-    let sense = senses::sense_towards(header.maximize);
-    check_by_terms(
-        index,
-        values,
-        header.variables,
-        row,
-        header.objective,
-        sense,
-        best,
-    )
+
+    // Whether rows l1 and l2 are a proper split.
+    fn is_proper_split(&self, l1: usize, l2: usize) -> bool
+        ensures { (tree : Tree) → Checks tree self.now → l1 < self.now.certificate.header.rows → l2 < self.now.certificate.header.rows → result ≡ is_proper_split tree l1 l2 }
+    {
+        let certificate = self.certificate;
+        let first = constraints::row_of(certificate, certificate.row(l1));
+        let second = constraints::row_of(certificate, certificate.row(l2));
+        first.is_split(second, &self.integers, certificate.header.variables)
+    }
+
+    // "else 16. Then each i row dominates, else 15": of the four rows that the reason names, i1 l1 i2 l2.
+    pub(crate) fn check_uns(&self, rows: &[u16], row: ListedRow) -> Verdict
+        ensures { (tree : Tree) (r : TreeRow) → Checks tree self.now → Lists tree self.now.certificate r row → All (λ i. i < self.now.certificate.header.rows) (named (uns (unsplit_of rows.now))) → verdict_says result ≡ check_uns tree r (unsplit_of rows.now) }
+    {
+        let l1 = tables::cell_at(rows, 1);
+        let l2 = tables::cell_at(rows, 3);
+        let proper = self.is_proper_split(l1, l2);
+        require(proper, Refusal::NoProperSplit, row.place)?;
+        check_by_row(self.certificate, row, tables::cell_at(rows, 0))?;
+        check_by_row(self.certificate, row, tables::cell_at(rows, 2))
+    }
+
+    // ---- **sol**
+
+    // "18, then 15", by the best objective, if there is any.
+    pub(crate) fn check_sol(&self, row: ListedRow) -> Verdict
+        ensures { (tree : Tree) (r : TreeRow) → Holds tree self.now.certificate → Lists tree self.now.certificate r row → IfSome self.now.best IsFraction → verdict_says result ≡ check_sol tree (best_says self.now.best) r }
+    {
+        let Some(best) = self.best else {
+            return Err(Stop {
+                reason: Refusal::NoSolutionListed,
+                place: row.place,
+            });
+        };
+        let header = self.certificate.header;
+        let by = Row {
+            terms: self.certificate.terms(header.objective),
+            sense: senses::sense_towards(header.maximize),
+            right: best,
+        };
+        Constraint::of_row(by).check_dominates(self.certificate, row)
+    }
 }

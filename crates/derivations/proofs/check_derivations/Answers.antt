@@ -1,20 +1,21 @@
 -- `derivations::check_derivations` meets its contract: the rows that are left to check give the same as all.
-use mathlib.Core.Path.{◌∙◌}
-use native.Mathlib.Omega.{arith}
-use Rattle.derivations.proofs.Refusals.{verdict_on, verdict_stop}
-use Rattle.derivations.proofs.ReasonsLaws.{checks_are, left-next}
+use Rattle.std.proofs.Common.{◌∙◌, ap, arith}
+use Rattle.verdicts.specs.Verdicts.{verdict_says}
+use Rattle.derivations.proofs.Refusals.{then_on, handed_up}
+use Rattle.derivations.proofs.ReasonsLaws.{integers_marked, left-next}
 use Rattle.derivations.proofs.check_derivations.Goals as goal
 
-pub returns-in_default : goal.returns-in_default
-returns-in_default c =
+pub returns-in_err-check_derivation : goal.returns-in_err-check_derivation
+returns-in_err-check_derivation c =
     λ tree os e b f.
-    verdict_stop _ _ (c.check_derivation-v.ensures tree os _ (checks_are e c.integers_of.ensures c.marks_of-integers.ensures) b f (omega (arith, c.loop-own.invariant.0)) c.loop-own-test.true) c.in_default.not-Fine
-    ∙ left-next e os c.loop-own.invariant.0 (c.loop-own.invariant.1 tree os e b f) c.loop-own-test.true
+    let n = c.args.certificate in
+    ap verdict_says (handed_up c.from_residual.result c.in_err-check_derivation.field-0.0 c.from_residual.ensures.1)
+    ∙ then_on _ (c.in_err-check_derivation.ensures tree os _ (record { encodes = e; integers_are = integers_marked n e c.integers.ensures c.marks_of.ensures }) (record { is = b; fraction = f }) (omega (arith, c.loop-own.auto.own)) c.loop-own-test.true)
+    ∙ left-next n e os c.loop-own.auto.own (c.loop-own.invariant tree os e b f) c.loop-own-test.true
 
 pub loop-own-preserved : goal.loop-own-preserved
-loop-own-preserved c = (
-  omega (arith, c.loop-own.invariant.0),
-  λ tree os e b f.
-      verdict_on _ _ (c.check_derivation-v.ensures tree os _ (checks_are e c.integers_of.ensures c.marks_of-integers.ensures) b f (omega (arith, c.loop-own.invariant.0)) c.loop-own-test.true) c.in-Fine.is
-      ∙ left-next e os c.loop-own.invariant.0 (c.loop-own.invariant.1 tree os e b f) c.loop-own-test.true,
-)
+loop-own-preserved c =
+    λ tree os e b f.
+    let n = c.args.certificate in
+    then_on _ (c.in_ok-check_derivation.ensures tree os _ (record { encodes = e; integers_are = integers_marked n e c.integers.ensures c.marks_of.ensures }) (record { is = b; fraction = f }) (omega (arith, c.loop-own.auto.own)) c.loop-own-test.true)
+    ∙ left-next n e os c.loop-own.auto.own (c.loop-own.invariant tree os e b f) c.loop-own-test.true

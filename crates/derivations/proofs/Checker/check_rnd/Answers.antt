@@ -1,0 +1,45 @@
+-- `derivations::Checker::check_rnd` meets its contract: the suitable combination, whether it can be rounded, and what it then dominates.
+use Rattle.std.proofs.Common.{ℕ, refl, ◌∙◌, ap}
+use Rattle.arithmetic.specs.declared.Fraction.{Fraction}
+use Rattle.rules.specs.Result.{Result, bind, ◌and_then◌, require}
+use Rattle.rules.specs.Rows.{Constraint}
+use Rattle.rules.specs.Combinations.{suitable_combination}
+use Rattle.rules.specs.Rounding.{can_be_rounded, rounded}
+use Rattle.rules.specs.Derivations.{check_dominates, check_rnd}
+use Rattle.verdicts.specs.Verdicts.{verdict_says}
+use Rattle.derivations.specs.Constraints.{constraint_is}
+use Rattle.derivations.proofs.Refusals.{handed_up, require_is, then_on}
+use Rattle.derivations.proofs.Checker.check_rnd.Goals as goal
+
+pub returns-in_err-made : goal.returns-in_err-made
+unfolding check_rnd
+returns-in_err-made c =
+    λ tree r ms h l m.
+    ap verdict_says (handed_up c.from_residual.result c.in_err-made.field-0.0 c.from_residual.ensures.1)
+    ∙ ap (λ (u : Result Constraint). bind u (λ d. require (can_be_rounded tree d) 14 r.name.place and_then check_dominates tree (rounded d) r))
+    (c.in_err-made.ensures.says tree ms h.encodes m ∙ ap (λ (p : ℕ). suitable_combination tree p ms) l.is.place_is)
+
+pub returns-in_err-require : goal.returns-in_err-require
+unfolding check_rnd
+returns-in_err-require c =
+    λ tree r ms h l m.
+    let made : Constraint = constraint_is c.in_ok-made.made in
+    ap verdict_says (handed_up c.from_residual-in_err-require.result c.in_err-require.field-0.0 c.from_residual-in_err-require.ensures.1)
+    ∙ then_on (check_dominates tree (rounded made) r)
+    (c.in_err-require.ensures ∙ require_is 14 (c.can_be_rounded-rounds.ensures tree made refl (c.is_integral-integral.ensures tree h.integers_are made refl)) l.is.place_is)
+    ∙ ap (λ (u : Result Constraint). bind u (λ d. require (can_be_rounded tree d) 14 r.name.place and_then check_dominates tree (rounded d) r))
+    (c.in_ok-made.ensures.says tree ms h.encodes m ∙ ap (λ (p : ℕ). suitable_combination tree p ms) l.is.place_is)
+
+pub returns : goal.returns
+unfolding check_rnd rounded
+returns c =
+    λ tree r ms h l m.
+    let made : Constraint = constraint_is c.in_ok-made.made in
+    let fs = c.in_ok-made.ensures.fractions tree ms h.encodes m in
+    let e = c.rounded_right-right.ensures fs.right in
+    c.check_dominates.ensures tree r l (record { coefficients = fs.coefficients; right = e.1 })
+    ∙ ap (λ (right : Fraction). check_dominates tree (record made { right = right }) r) e.0
+    ∙ then_on (check_dominates tree (rounded made) r)
+    (c.in_ok-require.ensures ∙ require_is 14 (c.can_be_rounded-rounds.ensures tree made refl (c.is_integral-integral.ensures tree h.integers_are made refl)) l.is.place_is)
+    ∙ ap (λ (u : Result Constraint). bind u (λ d. require (can_be_rounded tree d) 14 r.name.place and_then check_dominates tree (rounded d) r))
+    (c.in_ok-made.ensures.says tree ms h.encodes m ∙ ap (λ (p : ℕ). suitable_combination tree p ms) l.is.place_is)

@@ -1,0 +1,34 @@
+-- `derivations::combining::Multipliers::combine` meets its contract: the combination so far gives, with the rows that are left, that of all.
+use Rattle.std.proofs.Common.{ℕ, ◌≤◌, ◌<◌, Ok, Err, sym, ◌∙◌, subst}
+use Rattle.tables.specs.Pairs.{pairs_in}
+use Rattle.linear.specs.ListsLaws.{listed_none}
+use Rattle.encoding.specs.Places.{a_multiplier}
+use Rattle.derivations.proofs.RowsLaws.{lists_row}
+use Rattle.derivations.proofs.CombiningLaws.{combining, multiplier-below, stepped, wide_up, combining_end}
+use Rattle.derivations.proofs.combining.Multipliers.combine.Goals as goal
+
+pub loop-k-init : goal.loop-k-init
+loop-k-init c = λ tree e below. combining tree _ c.empty-made.ensures.empty c.empty-made.ensures.fractions
+
+pub returns-in_err-made-clause-says : goal.returns-in_err-made-clause-says
+returns-in_err-made-clause-says c =
+    let inside : let a = c.args in c.loop-k.k < pairs_in a.self.rows.now a.self.factors.now = subst (λ (n : ℕ). c.loop-k.k < n) c.count-k-end.ensures c.loop-k-test.true in
+    λ tree e below place.
+    let one = (multiplier-below _ _ _ below _ inside).0 in
+    let l = lists_row c.args.certificate e _ one (c.row.ensures tree _ (e.row _ one)) in
+    let next = stepped c.args.certificate _ _ below inside l.few (c.loop-k.invariant tree e below) (c.row_of-row.ensures tree _ l) c.value_at-factor.ensures (Err c.in_err-made.field-0.0) c.in_err-made.ensures.says c.in_err-made.ensures.fractions in
+    sym (wide_up place c.from_residual.result c.from_residual.ensures.0) ∙ next.says place
+
+pub loop-k-preserved : goal.loop-k-preserved
+loop-k-preserved c =
+    let inside : let a = c.args in c.loop-k.k < pairs_in a.self.rows.now a.self.factors.now = subst (λ (n : ℕ). c.loop-k.k < n) c.count-k-end.ensures c.loop-k-test.true in
+    λ tree e below.
+    let one = (multiplier-below _ _ _ below _ inside).0 in
+    let l = lists_row c.args.certificate e _ one (c.row.ensures tree _ (e.row _ one)) in
+    let next = stepped c.args.certificate _ _ below inside l.few (c.loop-k.invariant tree e below) (c.row_of-row.ensures tree _ l) c.value_at-factor.ensures (Ok c.in_ok-made.made) c.in_ok-made.ensures.says c.in_ok-made.ensures.fractions in
+    record { fractions = next.fractions; same = next.says }
+
+pub returns-clause-says : goal.returns-clause-says
+returns-clause-says c =
+    λ tree e below place.
+    combining_end (listed_none a_multiplier _ _ _ (subst (λ (n : ℕ). n ≤ c.loop-k.k) c.count-k-end.ensures c.loop-k-test.false)) (c.loop-k.invariant tree e below) place

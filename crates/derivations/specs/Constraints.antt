@@ -1,0 +1,39 @@
+-- What the code's rows and constraints stand for.
+-- Assumes nothing.
+use Rattle.std.specs.Prelude.{◌≡◌, Result, Ok, Err}
+use Rattle.arithmetic.specs.Fraction.{IsFraction}
+use Rattle.grammar.specs.Tree as grammar
+use Rattle.grammar.specs.Tree.{Tree}
+use Rattle.grammar.specs.Refusals.{refusal_number}
+use Rattle.grammar.specs.declared.Stop.{Stop}
+use Rattle.rules.specs.Result as result
+use Rattle.rules.specs.Rows as rows
+use Rattle.rules.specs.Rows.{value_in, constraint_of}
+use Rattle.rules.specs.Sentence.Formed.{Formed}
+use Rattle.senses.specs.Senses.{constraint_by}
+use Rattle.linear.specs.Lists.{terms_of}
+use Rattle.linear.specs.Coefficients.{coefficients_of, AreFractions}
+use Rattle.linear.specs.declared.rows.Row.{Row}
+use Rattle.encoding.specs.declared.Certificate.{Certificate}
+use Rattle.derivations.specs.declared.constraints.Constraint.{Constraint}
+
+-- listed terms with a sense and a right side are this row of a certificate
+pub record Stands (tree : Tree) (c : Certificate) (r : grammar.Row) (x : Row) : Type 0 where
+  pub is : constraint_by (value_in (terms_of x.terms)) x.sense x.right ≡ constraint_of tree r
+  pub terms_are : terms_of x.terms ≡ rows.terms_of tree r
+  pub right_is : x.right ≡ r.right
+  pub formed : Formed c.header.variables (terms_of x.terms)
+  pub fraction : IsFraction x.right
+
+abbrev pub constraint_is : Constraint → rows.Constraint
+constraint_is c = constraint_by (coefficients_of c.coefficients) c.sense c.right
+
+-- its coefficients and its right side are fractions
+pub record HaveFractions (c : Constraint) : Type 0 where
+  pub coefficients : AreFractions (coefficients_of c.coefficients)
+  pub right : IsFraction c.right
+
+-- a constraint, or the reason and the place of the first refusal
+abbrev pub constraint_says : Result Constraint Stop → result.Result rows.Constraint
+constraint_says (Ok c) = result.done (constraint_is c)
+constraint_says (Err stop) = result.refused (refusal_number stop.reason) stop.place
