@@ -92,4 +92,5 @@ def main():
                 for n, s in ns: print("    " + s)
     if not moved: print(same, "the same,", diff, "differ,", gone, "nowhere")
 
-main()
+if __name__ == "__main__":
+    main()
