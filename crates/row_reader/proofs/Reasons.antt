@@ -11,53 +11,40 @@ use lib.IntN.{ℤ}
 use Rattle.text.specs.Bytes.{Bytes}
 use Rattle.grammar.specs.Tree.{Reason, asm, lin, rnd, uns, sol, Derivation}
 use Rattle.grammar.specs.Certificate.{pair_list, ReasonWord, asm_word, lin_word, rnd_word, uns_word, sol_word, reason_cell, Detail, detail, unsplit, as_reason, is_assumption, assumptions}
-use Rattle.symbol_reader.specs.Steps.{State, any, the}
-use Rattle.symbol_reader.specs.Follows.{Always, Follows, Tells}
+use Rattle.std.specs.Prelude.{Ok}
+use Rattle.symbol_reader.specs.Steps.{State, Answer, any}
+use Rattle.symbol_reader.specs.Follows.{Always, Follows}
 use Rattle.symbol_reader.specs.declared.Cursor.{Cursor}
-use Rattle.symbol_reader.specs.declared.Step.{Step}
-use Rattle.symbol_reader.specs.declared.Step.TheVariants.{Next}
-use Rattle.symbol_reader.proofs.FollowsLaws.{follows_by, follows_nothing, view_follows}
+use Rattle.symbol_reader.proofs.FollowsLaws.{follows_nothing, view_follows}
 use Rattle.row_reader.specs.Parts.{derivation_but, word_cell}
 
--- ---- what follows a reason's word, whose number is k
+-- ---- what follows a reason's word, whose cell is k
 
-the-cell : {s : Step} {k : ℕ} {c : Cursor} → s ≡ Next k c → (w : ReasonWord) → Tells (the reason_cell) w s → reason_cell w ≡ k
-the-cell e w t = subst (Tells (the reason_cell) w) e t
-
-module _ (own : ℕ) {text : Bytes} {s : Step} {k : ℕ} {c : Cursor} (e : s ≡ Next k c) {ix : List ℕ} {vs : List ℤ} {rs : List ℕ} where
+module _ (own : ℕ) {k : ℕ} {text : Bytes} {c : Cursor} {ix : List ℕ} {vs : List ℤ} {rs : List ℕ} where
   -- nothing after `asm` and `sol`
-  pub detail_none : (w : ReasonWord) → Tells (the reason_cell) w s → (k ≡ 1 → ⊥) → (k ≡ 2 → ⊥) → (k ≡ 3 → ⊥) → Follows Always (λ _. detail own w) any text s ix vs rs ix vs rs (Next k c)
-  detail_none w t n1 n2 n3 = go w (the-cell e w t)
-    where
-      go : (w : ReasonWord) → reason_cell w ≡ k → Follows Always (λ _. detail own w) any text s ix vs rs ix vs rs (Next k c)
-      go asm_word e' = follows_by e follows_nothing
-      go lin_word e' = absurd (n1 (sym e'))
-      go rnd_word e' = absurd (n2 (sym e'))
-      go uns_word e' = absurd (n3 (sym e'))
-      go sol_word e' = follows_by e follows_nothing
+  pub detail_none : (k ≡ 1 → ⊥) → (k ≡ 2 → ⊥) → (k ≡ 3 → ⊥) → (w : ReasonWord) → reason_cell w ≡ k → {n : ℕ} → Follows Always (detail own w) any text c ix vs rs ix vs rs (Ok (record { number = n; cursor = c }))
+  detail_none n1 n2 n3 asm_word e = follows_nothing
+  detail_none n1 n2 n3 lin_word e = absurd (n1 (sym e))
+  detail_none n1 n2 n3 rnd_word e = absurd (n2 (sym e))
+  detail_none n1 n2 n3 uns_word e = absurd (n3 (sym e))
+  detail_none n1 n2 n3 sol_word e = follows_nothing
 
-  module _ {ix' : List ℕ} {vs' : List ℤ} {rs' : List ℕ} {r : Step} where
+  module _ {ix' : List ℕ} {vs' : List ℤ} {rs' : List ℕ} {r : Answer} where
     -- a list of pairs after `lin` and `rnd`
-    pub detail-listed : (w : ReasonWord) → Tells (the reason_cell) w s → 1 ≤ k → k ≤ 2 → Follows Always (λ _. pair_list own) any text (Next k c) ix vs rs ix' vs' rs' r → Follows Always (λ _. detail own w) any text s ix vs rs ix' vs' rs' r
-    detail-listed w t low high h = go w (the-cell e w t)
-      where
-        go : (w : ReasonWord) → reason_cell w ≡ k → Follows Always (λ _. detail own w) any text s ix vs rs ix' vs' rs' r
-        go asm_word e' = absurd (omega arith)
-        go lin_word e' = follows_by e (view_follows (λ a n t. tt) h)
-        go rnd_word e' = follows_by e (view_follows (λ a n t. tt) h)
-        go uns_word e' = absurd (omega arith)
-        go sol_word e' = absurd (omega arith)
+    pub detail-listed : 1 ≤ k → k ≤ 2 → Follows Always (pair_list own) any text c ix vs rs ix' vs' rs' r → (w : ReasonWord) → reason_cell w ≡ k → Follows Always (detail own w) any text c ix vs rs ix' vs' rs' r
+    detail-listed low high h asm_word e = absurd (omega arith)
+    detail-listed low high h lin_word e = view_follows (λ a n t. tt) h
+    detail-listed low high h rnd_word e = view_follows (λ a n t. tt) h
+    detail-listed low high h uns_word e = absurd (omega arith)
+    detail-listed low high h sol_word e = absurd (omega arith)
 
     -- i1 l1 i2 l2 after `uns`
-    pub detail-unsplit : (w : ReasonWord) → Tells (the reason_cell) w s → k ≡ 3 → Follows Always (λ _. unsplit own) any text (Next k c) ix vs rs ix' vs' rs' r → Follows Always (λ _. detail own w) any text s ix vs rs ix' vs' rs' r
-    detail-unsplit w t three h = go w (the-cell e w t)
-      where
-        go : (w : ReasonWord) → reason_cell w ≡ k → Follows Always (λ _. detail own w) any text s ix vs rs ix' vs' rs' r
-        go asm_word e' = absurd (omega arith)
-        go lin_word e' = absurd (omega arith)
-        go rnd_word e' = absurd (omega arith)
-        go uns_word e' = follows_by e h
-        go sol_word e' = absurd (omega arith)
+    pub detail-unsplit : k ≡ 3 → Follows Always (unsplit own) any text c ix vs rs ix' vs' rs' r → (w : ReasonWord) → reason_cell w ≡ k → Follows Always (detail own w) any text c ix vs rs ix' vs' rs' r
+    detail-unsplit three h asm_word e = absurd (omega arith)
+    detail-unsplit three h lin_word e = absurd (omega arith)
+    detail-unsplit three h rnd_word e = absurd (omega arith)
+    detail-unsplit three h uns_word e = h
+    detail-unsplit three h sol_word e = absurd (omega arith)
 
 -- a reason has the cell of its word
 pub word_cell_lem : (w : ReasonWord) (d : Detail w) → word_cell (as_reason (w, d)) ≡ reason_cell w
@@ -101,13 +88,9 @@ assumptions_more (x ∷ ds) d = go (is_assumption x.reason) (assumptions_more ds
 -- ---- a derivation: the row, the number of assumptions and the names are those of the derivations before it
 
 pub derivation_as : (n total : ℕ) {own own' assumed assumed' : ℕ} {used used' : List Bytes} → own ≡ own' → assumed ≡ assumed' → used ≡ used'
-    → {Q : ℕ → State → Type 0} {told : Derivation → ℕ → Type 0} {text : Bytes} {s : Step} {ix : List ℕ} {vs : List ℤ} {rs : List ℕ} {ix' : List ℕ} {vs' : List ℤ} {rs' : List ℕ} {r : Step}
-    → Follows Q (λ _. derivation_but n own total assumed used) told text s ix vs rs ix' vs' rs' r → Follows Q (λ _. derivation_but n own' total assumed' used') told text s ix vs rs ix' vs' rs' r
-derivation_as n total {own} {own'} {assumed} {assumed'} {used} {used'} p q u {Q} {told} {text} {s} {ix} {vs} {rs} {ix'} {vs'} {rs'} {r} h =
-    subst (λ (names : List Bytes). Follows Q (λ _. derivation_but n own' total assumed' names) told text s ix vs rs ix' vs' rs' r) u
-    (subst (λ (k : ℕ). Follows Q (λ _. derivation_but n own' total k used) told text s ix vs rs ix' vs' rs' r) q
-    (subst (λ (k : ℕ). Follows Q (λ _. derivation_but n k total assumed used) told text s ix vs rs ix' vs' rs' r) p h))
-
--- an answer has one number
-pub same_number : {n m : ℕ} {c d : Cursor} → Next n c ≡ Next m d → n ≡ m
-same_number e = cc
+    → {Q : State → Type 0} {told : Derivation → ℕ → Type 0} {text : Bytes} {c : Cursor} {ix : List ℕ} {vs : List ℤ} {rs : List ℕ} {ix' : List ℕ} {vs' : List ℤ} {rs' : List ℕ} {r : Answer}
+    → Follows Q (derivation_but n own total assumed used) told text c ix vs rs ix' vs' rs' r → Follows Q (derivation_but n own' total assumed' used') told text c ix vs rs ix' vs' rs' r
+derivation_as n total {own} {own'} {assumed} {assumed'} {used} {used'} p q u {Q} {told} {text} {c} {ix} {vs} {rs} {ix'} {vs'} {rs'} {r} h =
+    subst (λ (names : List Bytes). Follows Q (derivation_but n own' total assumed' names) told text c ix vs rs ix' vs' rs' r) u
+    (subst (λ (k : ℕ). Follows Q (derivation_but n own' total k used) told text c ix vs rs ix' vs' rs' r) q
+    (subst (λ (k : ℕ). Follows Q (derivation_but n k total assumed used) told text c ix vs rs ix' vs' rs' r) p h))

@@ -1,9 +1,9 @@
--- `row_reader::derivations::read_derivations` meets its contract. The invariant: so many of the derivations are read and written, so many of
--- them are assumptions, and the fingerprints of their names and of those of the given rows are marked. The names that stand in
--- the row table are these.
+-- The invariant of `row_reader::derivations::read_derivations`: so many of the derivations are read and written, so many of them are
+-- assumptions, and the fingerprints of their names and of those of the given rows are marked. The names that stand in the row
+-- table are these.
 use mathlib.Core.Path.{◌≡◌}
 use mathlib.Core.List.{◌++◌, map}
-use Prim.Native.Nat.{◌-◌, ◌*◌, ◌≤◌}
+use Prim.Native.Nat.{◌+◌, ◌*◌, ◌≤◌}
 use lib.ListN.{length}
 use lib.Seq.{slice}
 use Rattle.grammar.specs.Tree.{Derivation}
@@ -16,9 +16,6 @@ use Rattle.row_reader.proofs.derivations.read_derivations.Given as goal
 
 abbrev pub invariant-loop-i : goal.invariant-loop-i
 invariant-loop-i l =
-    (l.n ≤ 256 → l.m ≤ 1024 → Fingerprinted (names_in l.text (slice 0 (4 * l.m) l.initial.rows)) l.initial.prints
-    → Looping (derivation l.n l.m (names_in l.text (slice 0 (4 * l.m) l.initial.rows)) l.count) l.count l.i (λ done. (assumptions done ≡ l.assumed) × Fingerprinted (names_in l.text (slice 0 (4 * l.m) l.initial.rows) ++ map (λ (x : Derivation). x.row.name.bytes) done) l.prints) l.text (state l.initial.d l.initial.index l.initial.values l.initial.rows) (state l.d l.index l.values l.rows))
+    (l.n ≤ 256 → l.m + l.count ≤ 1024 → Fingerprinted (names_in l.text (slice 0 (4 * l.m) l.initial.rows)) l.initial.prints
+    → Looping (derivation l.n l.m (names_in l.text (slice 0 (4 * l.m) l.initial.rows)) l.count) l.count l.i (λ done. (assumptions done ≡ l.assumed) × Fingerprinted (names_in l.text (slice 0 (4 * l.m) l.initial.rows) ++ map (λ (x : Derivation). x.row.name.bytes) done) l.prints) l.text (state l.initial.at l.initial.index l.initial.values l.initial.rows) (state l.at l.index l.values l.rows))
     × (l.assumed ≤ l.i) × (length l.index ≡ length l.initial.index) × (length l.values ≡ length l.initial.values) × (length l.rows ≡ length l.initial.rows) × (length l.prints ≡ length l.initial.prints)
-
-abbrev pub decreases-loop-i : goal.decreases-loop-i
-decreases-loop-i l = l.count - l.i

@@ -1,24 +1,32 @@
 -- `row_reader::derivations::read_detail` meets its contract: by the word's cell.
-use native.Mathlib.Omega.{arith}
+use mathlib.Core.Path.{◌≡◌}
+use Prim.Native.Nat.{ℕ, ◌≤◌}
+use borrow.Author.Rules.{rules}
 use Rattle.row_reader.proofs.Reasons.{detail_none, detail-listed, detail-unsplit}
 use Rattle.row_reader.proofs.derivations.read_detail.Goals as goal
 
-pub returns-then-word-eq-LIN : goal.returns-then-word-eq-LIN
-returns-then-word-eq-LIN c =
-    let s = c.args in
-    λ w rs small t. detail-listed s.own c.in-Next.is w t (omega (arith, c.if-word-eq-LIN.true)) (omega (arith, c.if-word-eq-LIN.true)) (c.read_pair_list.ensures rs small)
+pub returns-in-1 : goal.returns-in-1
+returns-in-1 c =
+    let k : ℕ = c.args.word.number in
+    let low : 1 ≤ k = search rules in
+    let high : k ≤ 2 = search rules in
+    λ w rs small e. detail-listed c.args.own low high (c.read_pair_list.ensures rs small) w e
 
-pub returns-then-word-eq-RND : goal.returns-then-word-eq-RND
-returns-then-word-eq-RND c =
-    let s = c.args in
-    λ w rs small t. detail-listed s.own c.in-Next.is w t (omega (arith, c.if-word-eq-RND.true)) (omega (arith, c.if-word-eq-RND.true)) (c.read_pair_list-then-word-eq-RND.ensures rs small)
+pub returns-in-3 : goal.returns-in-3
+returns-in-3 c = λ w rs small e. detail-unsplit c.args.own c.in-3.is (c.read_unsplit.ensures _ rs small) w e
 
-pub returns-then-word-eq-UNS : goal.returns-then-word-eq-UNS
-returns-then-word-eq-UNS c =
-    let s = c.args in
-    λ w rs small t. detail-unsplit s.own c.in-Next.is w t c.if-word-eq-UNS.true (c.read_unsplit.ensures _ rs small)
+pub returns-in_default : goal.returns-in_default
+returns-in_default c =
+    let k : ℕ = c.args.word.number in
+    let n1 : k ≡ 1 → ⊥ = search rules in
+    let n2 : k ≡ 2 → ⊥ = search rules in
+    let n3 : k ≡ 3 → ⊥ = search rules in
+    λ w rs small e. detail_none c.args.own n1 n2 n3 w e
 
-pub returns : goal.returns
-returns c =
-    let s = c.args in
-    λ w rs small t. detail_none s.own c.in-Next.is w t c.if-word-eq-LIN.false c.if-word-eq-RND.false c.if-word-eq-UNS.false
+pub returns-in_default-2 : goal.returns-in_default-2
+returns-in_default-2 c =
+    let k : ℕ = c.args.word.number in
+    let n1 : k ≡ 1 → ⊥ = search rules in
+    let n2 : k ≡ 2 → ⊥ = search rules in
+    let n3 : k ≡ 3 → ⊥ = search rules in
+    λ w rs small e. detail_none c.args.own n1 n2 n3 w e

@@ -1,7 +1,7 @@
--- `row_reader::rows::read_rows` meets its contract. The invariant: so many of the rows are read and written, and the fingerprints of their
--- names are marked. The names that stand in the row table are theirs.
+-- The invariant of `row_reader::rows::read_rows`: so many of the rows are read and written, and the fingerprints of their names are
+-- marked. The names that stand in the row table are theirs.
 use mathlib.Core.Path.{◌≡◌}
-use Prim.Native.Nat.{◌-◌, ◌≤◌}
+use Prim.Native.Nat.{◌≤◌}
 use lib.ListN.{length}
 use Rattle.grammar.specs.Certificate.{row, row_names}
 use Rattle.symbol_reader.specs.Steps.{state}
@@ -10,7 +10,6 @@ use Rattle.symbol_reader.proofs.LoopLaws.{Looping}
 use Rattle.row_reader.proofs.rows.read_rows.Given as goal
 
 abbrev pub invariant-loop-i : goal.invariant-loop-i
-invariant-loop-i l = (l.n ≤ 256 → l.count ≤ 1024 → length l.initial.prints ≡ 1024 → Looping (λ before. row l.n (length before) (row_names before)) l.count l.i (λ done. Fingerprinted (row_names done) l.prints) l.text (state l.initial.d l.initial.index l.initial.values l.initial.rows) (state l.d l.index l.values l.rows)) × (length l.index ≡ length l.initial.index) × (length l.values ≡ length l.initial.values) × (length l.rows ≡ length l.initial.rows) × (length l.prints ≡ length l.initial.prints)
-
-abbrev pub decreases-loop-i : goal.decreases-loop-i
-decreases-loop-i l = l.count - l.i
+invariant-loop-i l =
+    (l.n ≤ 256 → l.count ≤ 1024 → length l.initial.prints ≡ 1024 → Looping (λ before. row l.n (length before) (row_names before)) l.count l.i (λ done. Fingerprinted (row_names done) l.prints) l.text (state l.initial.at l.initial.index l.initial.values l.initial.rows) (state l.at l.index l.values l.rows))
+    × (length l.index ≡ length l.initial.index) × (length l.values ≡ length l.initial.values) × (length l.rows ≡ length l.initial.rows) × (length l.prints ≡ length l.initial.prints)
