@@ -1,14 +1,15 @@
 -- A loop over a list: what is asked of each, and what comes of each.
 -- Assumes nothing.
 use mathlib.Core.Path.{◌≡◌, refl, sym, ap, ◌∙◌}
-use mathlib.Core.Bool.{Bool, ◌||◌, or-false, or_assoc}
+use mathlib.Core.Bool.{Bool, true, false, ◌&&◌, ◌||◌, or-false, or_assoc}
 use mathlib.Core.List.{List, [], ◌∷◌, ◌++◌, append_assoc, append-nil}
 use Prim.Native.Nat.{ℕ, ◌+◌, ◌≤◌, ◌<◌}
 use native.Mathlib.Numerals.{add-one}
 use lib.ListN.{length, drop, get_or, drop_of_length-le}
 use lib.Seq.{drop-cons}
+use Rattle.std.specs.List.{list_all}
 use Rattle.rules.specs.Tests.{some_of}
-use Rattle.rules.specs.Result.{Result, done, refused, Verdict, fine, bind, ◌and_then◌, each, collect}
+use Rattle.rules.specs.Result.{Result, done, refused, Verdict, fine, bind, ◌and_then◌, require, each, collect}
 
 drop-next : {A : Type 0} (xs : List A) (r : ℕ) (d : A) → r < length xs → drop r xs ≡ get_or xs r d ∷ drop (r + 1) xs
 drop-next xs r d h = rw (add-one, drop-cons xs r d)
@@ -27,6 +28,19 @@ module _ {A : Type 0} (check : A → Verdict) (xs : List A) where
 
   pub checking_end : {r : ℕ} → length xs ≤ r → Checking r → fine ≡ each check xs
   checking_end h g = sym (ap (each check) (drop_of_length-le xs h)) ∙ g
+
+-- one refusal, unless each passes a test
+pub each-require : {A : Type 0} (test : A → Bool) (reason place : ℕ) (xs : List A) {passed : Bool} → list_all test xs ≡ passed
+    → require passed reason place ≡ each (λ x. require (test x) reason place) xs
+each-require {A} test reason place xs e = ap (λ (b : Bool). require b reason place) (sym e) ∙ go xs
+  where
+    one : (b c : Bool) {v : Verdict} → require c reason place ≡ v → require (b && c) reason place ≡ (require b reason place and_then v)
+    one true c e = e
+    one false c e = refl
+
+    go : (xs : List A) → require (list_all test xs) reason place ≡ each (λ x. require (test x) reason place) xs
+    go [] = refl
+    go (x ∷ xs) = one (test x) (list_all test xs) (go xs)
 
 -- ---- what comes of each
 

@@ -1,33 +1,34 @@
 -- What comes of the objectives of solutions, in the words of the rules.
 -- Assumes nothing.
-use Rattle.std.specs.Prelude.{◌≡◌, cond, List}
-use Rattle.std.proofs.Math.Option.{Option, none, some}
+use Rattle.std.specs.Prelude.{◌≡◌, Option, Some, None, Result, Ok, Err, IfSome, List}
+use Rattle.std.proofs.Math.Option as maybe
 use Rattle.arithmetic.specs.Fraction.{IsFraction}
 use Rattle.arithmetic.specs.declared.Fraction.{Fraction}
-use Rattle.grammar.specs.Tree.{Direction, Tree}
+use Rattle.grammar.specs.Refusals.{refusal_number}
+use Rattle.grammar.specs.Tree.{Direction, End, Tree}
+use Rattle.grammar.specs.declared.Stop.{Stop}
 use Rattle.rules.specs.Result as result
-use Rattle.rules.specs.Tests.{some_of}
-use Rattle.rules.specs.Solutions.{holds, objectives_of, towards, best_of}
+use Rattle.rules.specs.Solutions.{objectives_of, reached, best_of}
+use Rattle.solutions.specs.Points.{IsTooWide}
 use Rattle.solutions.specs.declared.objectives.Best.{Best}
-use Rattle.solutions.specs.declared.objectives.Objectives.{Objectives}
-use Rattle.solutions.specs.declared.objectives.Objectives.TheVariants as objectives
 
 -- the best objective, if there is any
-abbrev pub best_says : Best → Option Fraction
-best_says b = cond b.any (some b.value) none
+abbrev pub best_says : Option Fraction → maybe.Option Fraction
+best_says None = maybe.none
+best_says (Some best) = maybe.some best
 
--- the best of these objectives, and whether one of them reaches a bound; its value is a fraction, even where there is none
-pub record BestIs (direction : Direction) (bound : Fraction) (os : List Fraction) (b : Best) : Type 0 where
-  pub best_is : best_says b ≡ best_of direction os
-  pub reached_is : b.reached ≡ some_of (λ o. holds (towards direction) o bound) os
-  pub fraction : IsFraction b.value
+-- the best of these objectives, and whether they reach the end that is asked; it is a fraction
+pub record BestIs (direction : Direction) (end : End) (os : List Fraction) (b : Best) : Type 0 where
+  pub best_is : best_says b.value ≡ best_of direction os
+  pub reached_is : b.reached ≡ reached direction end os
+  pub fraction : IfSome b.value IsFraction
 
--- the objectives of a tree: their best, and whether one of them reaches a bound; or 12 at a place
-pub record Worked (tree : Tree) (bound : Fraction) (b : Best) : Type 0 where
+-- the objectives of a tree: their best, and whether they reach the end; or 12 at a place
+pub record Worked (tree : Tree) (end : End) (b : Best) : Type 0 where
   pub values : List Fraction
   pub are : objectives_of tree ≡ result.done values
-  pub best : BestIs tree.objective.direction bound values b
+  pub best : BestIs tree.objective.direction end values b
 
-abbrev pub ObjectivesSay : Tree → Fraction → Objectives → Type 0
-ObjectivesSay tree bound (objectives.Found b) = Worked tree bound b
-ObjectivesSay tree bound (objectives.TooWide place) = objectives_of tree ≡ result.refused 12 place
+abbrev pub ObjectivesSay : Tree → End → Result Best Stop → Type 0
+ObjectivesSay tree end (Ok b) = Worked tree end b
+ObjectivesSay tree end (Err stop) = (objectives_of tree ≡ result.refused (refusal_number stop.reason) stop.place) × IsTooWide stop

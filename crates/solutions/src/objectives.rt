@@ -1,84 +1,73 @@
-// The objectives of the solutions: the best of them, and whether one reaches a bound.
-ghost use Rattle.std.specs.Prelude.{◌≡◌, List, [], ◌∷◌, ◌++◌, ◌<◌};
-ghost use Rattle.arithmetic.specs.Fraction.{IsFraction, arithmetic_says};
+// The objectives of the solutions: the best of them, and whether one reaches the bound that is asked.
+ghost use Rattle.std.specs.Prelude.{◌≡◌, List, [], ◌∷◌, ◌++◌, ◌<◌, IfSome, IfErr};
+ghost use Rattle.arithmetic.specs.Fraction.{IsFraction};
 ghost use Rattle.arithmetic.specs.declared.Fraction.{Fraction as FractionOf};
 ghost use Rattle.grammar.specs.Tree.{Direction, Tree};
-ghost use Rattle.rules.specs.Values.{within12};
 ghost use Rattle.rules.specs.Rows.{objective};
-ghost use Rattle.rules.specs.Solutions.{towards, left_side};
+ghost use Rattle.rules.specs.Solutions.{towards, left_side, best_of};
 ghost use Rattle.senses.specs.Senses.{sense_is};
-ghost use Rattle.encoding.specs.Encodes.{solution_at, Encodes};
-ghost use Rattle.solutions.specs.Objectives.{BestIs, ObjectivesSay};
+ghost use Rattle.encoding.specs.Claims.{end_says};
+ghost use Rattle.encoding.specs.Encodes.{solution_at, Holds};
+ghost use Rattle.solutions.specs.Points.{IsTooWide, left_says};
+ghost use Rattle.solutions.specs.Objectives.{best_says, BestIs, ObjectivesSay};
 
-use crate::points;
-use arithmetic::{Arithmetic, Fraction};
+use crate::points::Point;
+use encoding::Certificate;
+use arithmetic::Fraction;
+use grammar::Stop;
 use senses::Sense;
-use tables::Header;
 
-// The best objective so far, if there is any, and whether one of them reaches the bound.
-#[derive(Clone, Copy)]
+// The best objective, if there is any, and whether what is asked is reached: nothing is asked, or one of them reaches the bound.
+#[derive(Clone, Copy, Debug, PartialEq, Eq)]
 pub struct Best {
-    pub any: bool,
-    pub value: Fraction,
+    pub value: Option<Fraction>,
     pub reached: bool,
 }
 
-// What comes of all objectives, or the place of the name of the first solution whose objective is too wide.
-#[derive(Clone, Copy)]
-pub enum Objectives {
-    Found(Best),
-    TooWide(usize),
+// The better one of the best objective so far, if there is any, and one more.
+fn better(sense: Sense, best: Option<Fraction>, o: Fraction) -> Fraction
+    ensures { (d : Direction) (os : List FractionOf) → sense_is sense ≡ towards d → best_says best ≡ best_of d os → IfSome best IsFraction → IsFraction o → (best_says (Some result) ≡ best_of d (os ++ (o ∷ []))) × IsFraction result }
+{
+    match best {
+        Some(best) if senses::holds(sense, best, o) => best,
+        _ => o,
+    }
+}
+
+impl Best {
+    // One objective more; this sense is that of being as good.
+    fn with(self, sense: Sense, to_reach: Option<Fraction>, o: Fraction) -> Best
+        ensures { (d : Direction) (os : List FractionOf) → sense_is sense ≡ towards d → IfSome to_reach IsFraction → IsFraction o → BestIs d (end_says to_reach) os self → BestIs d (end_says to_reach) (os ++ (o ∷ [])) result }
+    {
+        let reaches = to_reach.is_none_or(|bound| senses::holds(sense, o, bound));
+        Best {
+            value: Some(better(sense, self.value, o)),
+            reached: self.reached || reaches,
+        }
+    }
 }
 
 // The objective of solution j.
-fn objective_at(index: &[u16], values: &[i32], rows: &[u16], header: Header, j: usize) -> Arithmetic
-    ensures { (tree : Tree) → Encodes tree header index.now values.now rows.now → j < header.solutions → within12 (solution_at tree j).name.place (arithmetic_says result) ≡ left_side (solution_at tree j).name.place (solution_at tree j).values.terms (objective tree) }
+fn objective_at(certificate: Certificate, j: usize) -> Result<Fraction, Stop>
+    ensures says { (tree : Tree) → Holds tree certificate.entry → j < certificate.entry.header.solutions → left_says result ≡ left_side (solution_at tree j).name.place (solution_at tree j).values.terms (objective tree) }
+    ensures reason { IfErr result IsTooWide }
 {
-    let point = points::point_of(index, values, rows, j);
-    points::left_at(index, values, header.objective, &point.nums, &point.dens)
+    Point::of(certificate, j).left_at(certificate, certificate.header.objective)
 }
 
-// One objective more; this sense is that of being as good.
-fn with_objective(sense: Sense, best: Best, bound: Fraction, o: Fraction) -> Best
-    ensures { (d : Direction) (os : List FractionOf) → sense_is sense ≡ towards d → IsFraction bound → IsFraction o → BestIs d bound os best → BestIs d bound (os ++ (o ∷ [])) result }
+// "After all solutions, their objectives, the same way and in order"; a bound that some objective is to reach, if it is asked.
+pub fn objectives_of(certificate: Certificate, to_reach: Option<Fraction>) -> Result<Best, Stop>
+    ensures { (tree : Tree) → Holds tree certificate.entry → IfSome to_reach IsFraction → ObjectivesSay tree (end_says to_reach) result }
 {
-    let reached = best.reached | senses::holds(sense, o, bound);
-    let keep = best.any & senses::holds(sense, best.value, o);
-    let mut value = o;
-    if keep {
-        value = best.value;
-    }
-    Best {
-        any: true,
-        value: value,
-        reached: reached,
-    }
-}
-
-// "After all solutions, their objectives, the same way and in order".
-pub fn objectives_of(
-    index: &[u16],
-    values: &[i32],
-    rows: &[u16],
-    header: Header,
-    bound: Fraction,
-) -> Objectives
-    ensures { (tree : Tree) → Encodes tree header index.now values.now rows.now → IsFraction bound → ObjectivesSay tree bound result }
-{
+    let header = certificate.header;
     let sense = senses::sense_towards(header.maximize);
-    let count = header.solutions;
     let mut best = Best {
-        any: false,
-        value: bound,
-        reached: false,
+        value: None,
+        reached: to_reach.is_none(),
     };
-    let mut j = 0;
-    while j < count {
-        let Arithmetic::Value(o) = objective_at(index, values, rows, header, j) else {
-            return Objectives::TooWide(tables::solution_at(rows, j).place);
-        };
-        best = with_objective(sense, best, bound, o);
-        j += 1;
+    for j in 0..header.solutions {
+        let o = objective_at(certificate, j)?;
+        best = best.with(sense, to_reach, o);
     }
-    Objectives::Found(best)
+    Ok(best)
 }

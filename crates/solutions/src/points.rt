@@ -1,45 +1,54 @@
 // The points that solutions are, and left sides at them.
-ghost use Rattle.std.specs.Prelude.{◌≡◌, List, ℕ, ◌≤◌};
-ghost use Rattle.arithmetic.specs.Fraction.{arithmetic_says};
+ghost use Rattle.std.specs.Prelude.{◌≡◌, List, ℕ, ◌≤◌, IfErr};
 ghost use Rattle.grammar.specs.Tree.{Term, Solution};
-ghost use Rattle.rules.specs.Values.{within12};
 ghost use Rattle.rules.specs.Solutions.{left_side};
 ghost use Rattle.rules.specs.Sentence.Formed.{Formed};
 ghost use Rattle.encoding.specs.Places.{terms_at};
 ghost use Rattle.encoding.specs.Encodes.{EncodesSolution};
-ghost use Rattle.solutions.specs.Points.{IsPoint};
+ghost use Rattle.solutions.specs.Points.{IsPoint, IsTooWide, left_says};
 
-use arithmetic::Arithmetic;
-use encoding::rows as encoded;
-use linear::lists;
-use linear::lists::Coefficients;
+use encoding::Certificate;
+use linear::coefficients::Coefficients;
+use arithmetic::Fraction;
+use grammar::{Refusal, Stop};
 use tables::Pairs;
 
-// The value that solution j gives each variable.
-pub(crate) fn point_of(index: &[u16], values: &[i32], rows: &[u16], j: usize) -> Coefficients
-    ensures { (n : ℕ) (s : Solution) → n ≤ 256 → EncodesSolution n index.now values.now rows.now j s → IsPoint result.nums result.dens s }
-{
-    let terms = encoded::solution_terms(index, rows, j);
-    lists::coefficients_of(
-        tables::indices_of(index, terms),
-        tables::values_of(values, terms),
-    )
+// A solution: the place of its name, and the value that it gives each variable.
+#[derive(Clone, Copy)]
+pub(crate) struct Point {
+    place: usize,
+    pub(crate) values: Coefficients,
 }
 
-// The left side, at a point, of the terms that stand there.
-pub(crate) fn left_at<'a>(
-    index: &[u16],
-    values: &[i32],
-    terms: Pairs,
-    nums: &'a [i32; 256],
-    dens: &'a [i32; 256],
-) -> Arithmetic
-    ensures { (n : ℕ) (s : Solution) (ts : List Term) → n ≤ 256 → IsPoint nums.now dens.now s → terms_at index.now values.now terms ≡ ts → Formed n ts → within12 s.name.place (arithmetic_says result) ≡ left_side s.name.place s.values.terms ts }
-{
-    linear::points::left_of(
-        tables::indices_of(index, terms),
-        tables::values_of(values, terms),
-        nums,
-        dens,
-    )
+impl Point {
+    // Solution j.
+    pub(crate) fn of(certificate: Certificate, j: usize) -> Point
+        ensures { (n : ℕ) (s : Solution) → n ≤ 256 → EncodesSolution n certificate.entry.index.now certificate.entry.values.now certificate.entry.rows.now j s → IsPoint result s }
+    {
+        Point {
+            place: tables::solution_at(certificate.rows, j).place,
+            values: certificate.terms(certificate.solution(j)).coefficients(),
+        }
+    }
+
+    // A refusal at the name of the solution.
+    pub(crate) fn stop(&self, reason: Refusal) -> Stop
+        ensures { result ≡ record { reason = reason; place = self.now.place } }
+    {
+        Stop {
+            reason,
+            place: self.place,
+        }
+    }
+
+    // The left side, at this point, of the terms that stand there; else 12.
+    pub(crate) fn left_at(&self, certificate: Certificate, terms: Pairs) -> Result<Fraction, Stop>
+        ensures says { (n : ℕ) (s : Solution) (ts : List Term) → n ≤ 256 → IsPoint self.now s → terms_at certificate.entry.index.now certificate.entry.values.now terms ≡ ts → Formed n ts → left_says result ≡ left_side s.name.place s.values.terms ts }
+        ensures reason { IfErr result IsTooWide }
+    {
+        certificate
+            .terms(terms)
+            .left_at(&self.values)
+            .map_err(|_| self.stop(Refusal::ResultTooWide))
+    }
 }

@@ -1,33 +1,23 @@
 -- `solutions::feasibility::check_solution` meets its contract: the values of integer variables, then the given rows.
-use mathlib.Core.Path.{◌≡◌, sym, ap, ◌∙◌}
-use Rattle.rules.specs.Result as result
-use Rattle.rules.specs.Result.{◌and_then◌, each}
-use Rattle.rules.specs.Solutions.{check_row, check_solution}
+use Rattle.std.specs.Prelude.{◌≡◌, Err}
+use Rattle.std.proofs.Common.{sym, ap, ◌∙◌, rules}
 use Rattle.encoding.specs.Encodes.{solution_at}
 use Rattle.verdicts.specs.Verdicts.{verdict_says}
-use Rattle.solutions.specs.Points.{IsPoint, whole_at}
+use Rattle.solutions.specs.Points.{IsPoint}
+use Rattle.solutions.proofs.LeftSides.{solution_is}
 use Rattle.solutions.proofs.feasibility.check_solution.Goals as goal
 
-pub returns-in_default : goal.returns-in_default
-unfolding check_solution
-returns-in_default c =
+pub returns-in_err-check_whole : goal.returns-in_err-check_whole
+returns-in_err-check_whole c =
     λ tree e lt.
     let s = solution_at tree c.args.j in
-    let encodes = e.solution c.args.j lt in
-    let at : c.solution_at-place.result.place ≡ s.name.place = c.solution_at-place.ensures.place.is ∙ encodes.place_is in
-    let point : IsPoint c.point_of-point.result.nums c.point_of-point.result.dens s = c.point_of-point.ensures _ _ e.in_range.variables_most encodes in
-    let checked = ap (λ (v : result.Verdict). v and_then each (check_row tree s) tree.constraints.rows)
-    (sym (ap verdict_says c.in_default.is) ∙ c.check_whole-v.ensures s point at ∙ ap (each (whole_at s)) (c.integers_of-integers.ensures ∙ e.integers_are)) in
-    ap verdict_says c.in_default.is ∙ checked
+    let point : IsPoint c.of-point.result s = c.of-point.ensures _ _ e.in_range.variables_most (e.solution c.args.j lt) in
+    let stopped : c.from_residual.result ≡ Err c.in_err-check_whole.field-0.0 = search rules in
+    ap verdict_says stopped ∙ solution_is tree s (sym (ap verdict_says c.in_err-check_whole.was) ∙ c.check_whole.ensures s point) (c.integers.ensures ∙ e.integers_are)
 
 pub returns : goal.returns
-unfolding check_solution
 returns c =
     λ tree e lt.
     let s = solution_at tree c.args.j in
-    let encodes = e.solution c.args.j lt in
-    let at : c.solution_at-place.result.place ≡ s.name.place = c.solution_at-place.ensures.place.is ∙ encodes.place_is in
-    let point : IsPoint c.point_of-point.result.nums c.point_of-point.result.dens s = c.point_of-point.ensures _ _ e.in_range.variables_most encodes in
-    let checked = ap (λ (v : result.Verdict). v and_then each (check_row tree s) tree.constraints.rows)
-    (sym (ap verdict_says c.in-Fine.is) ∙ c.check_whole-v.ensures s point at ∙ ap (each (whole_at s)) (c.integers_of-integers.ensures ∙ e.integers_are)) in
-    c.check_rows.ensures tree s e point at ∙ checked
+    let point : IsPoint c.of-point.result s = c.of-point.ensures _ _ e.in_range.variables_most (e.solution c.args.j lt) in
+    c.check_rows.ensures tree s e point ∙ solution_is tree s (sym (ap verdict_says c.in_ok-check_whole.was) ∙ c.check_whole.ensures s point) (c.integers.ensures ∙ e.integers_are)

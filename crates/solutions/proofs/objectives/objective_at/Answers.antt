@@ -3,9 +3,8 @@ use Rattle.rules.specs.Rows.{objective}
 use Rattle.encoding.specs.Encodes.{solution_at}
 use Rattle.solutions.proofs.objectives.objective_at.Goals as goal
 
-pub returns : goal.returns
-returns c =
+pub returns-clause-says : goal.returns-clause-says
+returns-clause-says c =
     λ tree e lt.
-    let j = c.args.j in
     let few = e.in_range.variables_most in
-    c.left_at.ensures _ (solution_at tree j) (objective tree) few (c.point_of-point.ensures _ _ few (e.solution j lt)) e.objective_is e.formed.objective_formed
+    c.left_at.ensures.says _ (solution_at tree c.args.j) (objective tree) few (c.of.ensures _ _ few (e.solution c.args.j lt)) e.objective_is e.formed.objective_formed
