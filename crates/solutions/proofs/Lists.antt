@@ -1,15 +1,14 @@
 -- A loop over a list: what is asked of each, and what comes of each.
 -- Assumes nothing.
 use mathlib.Core.Path.{◌≡◌, refl, sym, ap, ◌∙◌}
-use mathlib.Core.Bool.{Bool, true, false, ◌&&◌, ◌||◌, or-false, or_assoc}
+use mathlib.Core.Bool.{Bool, true, false, ◌&&◌}
 use mathlib.Core.List.{List, [], ◌∷◌, ◌++◌, append_assoc, append-nil}
 use Prim.Native.Nat.{ℕ, ◌+◌, ◌≤◌, ◌<◌}
 use native.Mathlib.Numerals.{add-one}
 use lib.ListN.{length, drop, get_or, drop_of_length-le}
 use lib.Seq.{drop-cons}
 use Rattle.std.specs.List.{list_all}
-use Rattle.rules.specs.Tests.{some_of}
-use Rattle.rules.specs.Result.{Result, done, refused, Verdict, fine, bind, ◌and_then◌, require, each, collect}
+use Rattle.rules.specs.Result.{Result, done, refused, Verdict, bind, ◌and_then◌, require, each, collect}
 
 drop-next : {A : Type 0} (xs : List A) (r : ℕ) (d : A) → r < length xs → drop r xs ≡ get_or xs r d ∷ drop (r + 1) xs
 drop-next xs r d h = rw (add-one, drop-cons xs r d)
@@ -25,9 +24,6 @@ module _ {A : Type 0} (check : A → Verdict) (xs : List A) where
   pub checking_is : {r : ℕ} (d : A) → r < length xs → Checking r → {v : Verdict} → check (get_or xs r d) ≡ v → (v and_then each check (drop (r + 1) xs)) ≡ each check xs
   checking_is {r} d h g e =
       sym (ap (λ (v : Verdict). v and_then each check (drop (r + 1) xs)) e) ∙ sym (ap (each check) (drop-next xs r d h)) ∙ g
-
-  pub checking_end : {r : ℕ} → length xs ≤ r → Checking r → fine ≡ each check xs
-  checking_end h g = sym (ap (each check) (drop_of_length-le xs h)) ∙ g
 
 -- one refusal, unless each passes a test
 pub each-require : {A : Type 0} (test : A → Bool) (reason place : ℕ) (xs : List A) {passed : Bool} → list_all test xs ≡ passed
@@ -78,9 +74,3 @@ module _ {A B : Type 0} (f : A → Result B) (xs : List A) where
   pub collecting_end : (before : List B) {r : ℕ} → length xs ≤ r → Collecting before r → collect f xs ≡ done before
   collecting_end before h g =
       sym g ∙ ap (λ (l : List A). bind (collect f l) (λ ys. done (before ++ ys))) (drop_of_length-le xs h) ∙ ap done (append-nil before)
-
--- ---- one more
-
-pub some_more : {A : Type 0} (test : A → Bool) (xs : List A) (x : A) → some_of test (xs ++ (x ∷ [])) ≡ (some_of test xs || test x)
-some_more test [] x = or-false (test x)
-some_more test (y ∷ xs) x = ap (λ (b : Bool). test y || b) (some_more test xs x) ∙ sym (or_assoc (test y) (some_of test xs) (test x))

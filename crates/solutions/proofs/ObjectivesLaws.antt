@@ -1,18 +1,18 @@
 -- Objectives, one after the other.
 -- Assumes nothing.
-use Rattle.std.specs.Prelude.{◌≡◌, Bool, true, false, cond, ◌||◌, Option, Some, IfSome, List, [], ◌∷◌, ◌++◌, ℕ, ◌+◌, ◌≤◌, ◌<◌, length}
+use Rattle.std.specs.Prelude.{◌≡◌, Bool, true, false, cond, Option, Some, IfSome, List, [], ◌∷◌, ◌++◌, ℕ, ◌+◌, ◌≤◌, ◌<◌, length}
 use Rattle.std.proofs.Common.{refl, sym, ap, subst, ◌∙◌}
 use Rattle.std.proofs.Math.Option as maybe
 use Rattle.arithmetic.specs.Fraction.{IsFraction}
 use Rattle.arithmetic.specs.declared.Fraction.{Fraction}
-use Rattle.grammar.specs.Tree.{Direction, End, infinite, finite, Sense, Solution, Tree}
+use Rattle.grammar.specs.Tree.{Direction, End, Sense, Solution, Tree}
 use Rattle.rules.specs.Result.{Result, done, refused}
 use Rattle.rules.specs.Rows.{objective}
-use Rattle.rules.specs.Solutions.{left_side, holds, objectives_of, reached, towards, best_from, best_of}
+use Rattle.rules.specs.Solutions.{left_side, holds, objectives_of, towards, best_from, best_of}
 use Rattle.encoding.specs.Encodes.{no_solution, solution_at}
 use Rattle.solutions.specs.Objectives.{best_says, BestIs, Worked}
 use Rattle.solutions.specs.declared.objectives.Best.{Best}
-use Rattle.solutions.proofs.Lists.{Collecting, collecting, collecting_is, collecting_on, collecting_end, some_more}
+use Rattle.solutions.proofs.Lists.{Collecting, collecting_is, collecting_on, collecting_end}
 
 -- ---- one objective more
 
@@ -47,15 +47,6 @@ module _ (d : Direction) (os : List Fraction) {best : Option Fraction} {b o : Fr
   pub taken : test ≡ false → (maybe.some o ≡ best_of d (os ++ (o ∷ []))) × IsFraction o
   taken q = (sym (ap (λ (x : Bool). maybe.some (cond x b o)) q) ∙ tested is_fraction, h)
 
--- whether one objective reaches the end, and whether one more does
-abbrev pub reaches : Direction → End → Fraction → Bool
-reaches d infinite o = true
-reaches d (finite bound) o = holds (towards d) o bound
-
-pub reached_more : (d : Direction) (end : End) (os : List Fraction) (o : Fraction) → (reached d end os || reaches d end o) ≡ reached d end (os ++ (o ∷ []))
-reached_more d infinite os o = refl
-reached_more d (finite bound) os o = sym (some_more (λ o. holds (towards d) o bound) os o)
-
 -- ---- those of the solutions
 
 module _ (tree : Tree) (end : End) where
@@ -67,9 +58,6 @@ module _ (tree : Tree) (end : End) where
     pub values : List Fraction
     pub are : Collecting objective_of tree.solutions.solutions values j
     pub best : BestIs tree.objective.direction end values b
-
-  pub worked_start : {b : Best} → BestIs tree.objective.direction end [] b → WorkedTo b 0
-  worked_start best = record { values = []; are = collecting objective_of tree.solutions.solutions; best = best }
 
   module _ {b : Best} {j : ℕ} (w : WorkedTo b j) where
     pub worked_on : {next : Best} {o : Fraction} → j < length tree.solutions.solutions → objective_of (solution_at tree j) ≡ done o
