@@ -12,8 +12,8 @@ ghost use Rattle.solutions.specs.Points.{IsTooWide, left_says};
 ghost use Rattle.solutions.specs.Objectives.{best_says, BestIs, ObjectivesSay};
 
 use crate::points::Point;
-use encoding::Certificate;
 use arithmetic::Fraction;
+use encoding::Certificate;
 use grammar::Stop;
 use senses::Sense;
 

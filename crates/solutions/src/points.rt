@@ -7,10 +7,10 @@ ghost use Rattle.encoding.specs.Places.{terms_at};
 ghost use Rattle.encoding.specs.Encodes.{EncodesSolution};
 ghost use Rattle.solutions.specs.Points.{IsPoint, IsTooWide, left_says};
 
-use encoding::Certificate;
-use linear::coefficients::Coefficients;
 use arithmetic::Fraction;
+use encoding::Certificate;
 use grammar::{Refusal, Stop};
+use linear::coefficients::Coefficients;
 use tables::Pairs;
 
 // A solution: the place of its name, and the value that it gives each variable.
