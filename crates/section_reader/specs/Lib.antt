@@ -1,2 +1,2 @@
--- What the readers of sections promise beside the contract of reading on from an answer.
+-- What the readers of sections promise beside the contract of reading on from a cursor.
 pub mod Sections

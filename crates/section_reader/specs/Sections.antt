@@ -1,6 +1,6 @@
--- What the readers of sections promise: what an answer hands on, and what the answers of the larger sections say.
+-- What the readers of sections promise: what is known of an answer, and what those of the larger sections say.
 -- Assumes nothing.
-use Rattle.std.specs.Prelude.{◌≡◌, refl, List, ℕ, suc, ◌+◌, ◌-◌, ◌*◌, ◌≤◌}
+use Rattle.std.specs.Prelude.{◌≡◌, refl, Result, Ok, Err, List, ℕ, ◌+◌, ◌-◌, ◌*◌, ◌≤◌}
 use Rattle.text.specs.Bytes.{Bytes}
 use Rattle.text.specs.Words as W
 use Rattle.tables.specs.Limits.{most_rows}
@@ -8,40 +8,34 @@ use Rattle.grammar.specs.Tree.{Objective, Derivation, Derivations}
 use Rattle.grammar.specs.Format.{Format, symbol, placed, then, items, view}
 use Rattle.grammar.specs.Certificate.{count_to, derivation}
 use Rattle.grammar.specs.Header.{is_maximize}
-use Rattle.symbol_reader.specs.Steps.{State}
-use Rattle.symbol_reader.specs.Follows.{below}
-use Rattle.symbol_reader.specs.declared.Step.{Step}
-use Rattle.symbol_reader.specs.declared.Step.TheVariants.{Next, Stop}
-use Rattle.section_reader.specs.declared.problem.ObjectiveAnswer.{ObjectiveAnswer}
-use Rattle.section_reader.specs.declared.proof.DerivationsAnswer.{DerivationsAnswer}
+use Rattle.grammar.specs.declared.Stop.{Stop}
+use Rattle.symbol_reader.specs.Steps.{State, Answer}
+use Rattle.symbol_reader.specs.declared.Cursor.{Cursor}
+use Rattle.section_reader.specs.declared.problem.Objective.{Objective as ObjectiveRead}
+use Rattle.section_reader.specs.declared.proof.Derivations.{Derivations as DerivationsRead}
 
--- its number, and how many index cells and values are written; 0 where it is a refusal
-abbrev pub number_of : Step → ℕ
-number_of (Next n c) = n
-number_of (Stop q p) = 0
+-- ---- an answer of more than a number
 
-abbrev pub cells_of : Step → ℕ
-cells_of (Next n c) = c.cells
-cells_of (Stop q p) = 0
+-- where the reading goes on after what was read, or where it stops
+abbrev pub step_of : {X : Type 0} → (X → Cursor) → Result X Stop → Answer
+step_of cursor (Ok x) = Ok (record { number = 0; cursor = cursor x })
+step_of cursor (Err e) = Err e
 
-abbrev pub values_of : Step → ℕ
-values_of (Next n c) = c.values
-values_of (Stop q p) = 0
+-- what is said of what was read
+abbrev pub Says : {X : Type 0} → (X → Type 0) → Result X Stop → Type 0
+Says P (Ok x) = P x
+Says P (Err e) = Unit {0}
 
--- what must hold at the start of a part beside the room: two values have room, for the ends of a range; the number is at most this; or P
-abbrev pub ForEnds : ℕ → State → Type 0
-ForEnds n s = 4 * s.cursor.values + 4 ≤ s.cursor.at
+-- ---- the sections
 
-abbrev pub AtMost : ℕ → ℕ → State → Type 0
-AtMost most n s = n ≤ most
+-- what must hold at the start of the ends of a range beside the room: two values have room
+abbrev pub ForEnds : State → Type 0
+ForEnds s = 4 * s.cursor.values + 4 ≤ s.cursor.at
 
-abbrev pub Where : Type 0 → ℕ → State → Type 0
-Where P n s = P
-
--- what reading the objective o after the answer s hands back: its terms follow the cells of its direction and of their count
-pub record SaysObjective (s : Step) (o : Objective) (r : ObjectiveAnswer) : Type 0 where
+-- what reading the objective o from the cursor c on hands back: its terms follow the cells of its direction and of their count
+pub record SaysObjective (c : Cursor) (o : Objective) (r : ObjectiveRead) : Type 0 where
   pub direction : r.maximize ≡ is_maximize o.direction
-  pub terms : r.terms ≡ record { cell = cells_of s + 2; number = values_of s; count = o.terms.count }
+  pub terms : r.terms ≡ record { cell = c.cells + 2; number = c.values; count = o.terms.count }
 
 -- the section of derivations after m given rows with these names
 abbrev pub derivations_after : ℕ → ℕ → List Bytes → Format Derivations
@@ -50,7 +44,8 @@ derivations_after n m names =
     (λ p. record { place = p.0; count = p.1.0; derivations = p.1.1 }) (λ d. (d.place, (d.count, d.derivations))) (λ p. refl) (λ d. refl)
     (then (symbol (placed W.DER)) (λ p. then (count_to (most_rows - m)) (λ d. items d (derivation n m names d))))
 
--- what reading it hands back: the place of its word, and by the answer how many derivations there are
-pub record SaysDerivations (m : ℕ) (d : Derivations) (k : ℕ) (r : DerivationsAnswer) : Type 0 where
+-- what reading it hands back: the place of its word, and how many derivations there are
+pub record SaysDerivations (m : ℕ) (d : Derivations) (r : DerivationsRead) : Type 0 where
   pub place : r.place ≡ d.place
-  pub count : below (suc (most_rows - m)) d.count k
+  pub count : r.count ≡ d.count
+  pub within : r.count ≤ most_rows - m

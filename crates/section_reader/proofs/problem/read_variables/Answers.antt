@@ -1,10 +1,19 @@
 -- `section_reader::problem::read_variables` meets its contract: a section of a count and that many names.
 use mathlib.Core.Path.{refl}
 use native.Mathlib.Omega.{arith}
-use borrow.Author.Rules.{rules}
-use Rattle.symbol_reader.proofs.FollowsLaws.{leads_always}
-use Rattle.section_reader.proofs.SectionLaws.{section_follows, counted_follows}
+use Rattle.symbol_reader.proofs.FollowsLaws.{then_stops, view_follows}
+use Rattle.section_reader.proofs.SectionLaws.{section_follows, section_stops, counted_follows}
 use Rattle.section_reader.proofs.problem.read_variables.Goals as goal
 
+pub returns-in_err-word : goal.returns-in_err-word
+returns-in_err-word c = λ vs rs. section_stops (c.read_word.ensures _ vs rs) c.in_err-word.was c.from_residual.ensures.1
+
+pub returns-in_err-count : goal.returns-in_err-count
+returns-in_err-count c =
+    λ vs rs.
+    section_follows (c.read_word.ensures _ vs rs) c.in_ok-word.was (view_follows (λ a n t. t) (then_stops (c.read_count.ensures.follows vs rs (omega arith)) c.in_err-count.was c.from_residual-in_err-count.ensures.1))
+
 pub returns : goal.returns
-returns c = λ vs rs. section_follows (c.read_word-s.ensures _ vs rs) (counted_follows (λ x. refl) leads_always (c.read_count-count.ensures.follows vs rs (omega arith)) (c.read_names-s.ensures _ vs rs) c.carry.ensures)
+returns c =
+    λ vs rs.
+    section_follows (c.read_word.ensures _ vs rs) c.in_ok-word.was (counted_follows (c.read_count.ensures.follows vs rs (omega arith)) c.in_ok-count.was (λ y. refl) (λ few. c.read_names.ensures _ vs rs))
