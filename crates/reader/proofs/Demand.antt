@@ -1,19 +1,17 @@
 -- The promise of Read a certificate: its equations in each course of a reading, and demand 3 from the equations.
 -- Assumes nothing.
 use mathlib.Core.Path.{◌≡◌, refl, sym, ap, ◌∙◌, subst}
-use mathlib.Core.Bool.{Bool, true, false, ◌&&◌}
+use mathlib.Core.Bool.{true, false}
 use mathlib.Core.List.{List}
+use Rattle.std.specs.Prelude.{Result, Ok, Err}
 use Prim.Native.Nat.{ℕ, ◌-◌, ◌≤◌}
 use native.Mathlib.Omega.{arith}
 use lib.IntN.{ℤ, pos}
 use lib.Seq.{sets}
 use lib.ListN.{length, replicate, length-append, length-replicate}
-use borrow.Author.Tests.{leb-true, le-leb}
-use lib.Dec.{leb}
 use Rattle.text.specs.Bytes.{Bytes}
-use Rattle.text.proofs.BytesLaws.{clash}
 use Rattle.text.specs.Lines.{line_of}
-use Rattle.tables.specs.Limits.{index_cells, value_cells, row_cells, has_cells, is_short, most_bytes}
+use Rattle.tables.specs.Limits.{has_cells, is_short}
 use Rattle.tables.specs.declared.Header.{Header}
 use Rattle.grammar.specs.Tree.{Tree}
 use Rattle.grammar.specs.Certificate.{certificate}
@@ -26,17 +24,12 @@ use Rattle.grammar.proofs.Texts.{read_sound, read_complete, taken_certificate, c
 use Rattle.grammar.proofs.AllNames.{tree_names, variables_stand}
 use Rattle.grammar.proofs.Fits.{fits}
 use Rattle.grammar.specs.Refusals.{refusal_number}
-use Rattle.grammar.specs.declared.Refusal.{Refusal}
 use Rattle.grammar.specs.declared.Refusal.TheVariants.{TableTooSmall, TextTooLong}
+use Rattle.grammar.specs.declared.Stop.{Stop}
 use Rattle.symbol_reader.specs.Steps.{state}
-use Rattle.symbol_reader.specs.declared.Cursor.{Cursor}
-use Rattle.symbol_reader.specs.declared.Step.{Step}
-use Rattle.symbol_reader.specs.declared.Step.TheVariants.{Next, Stop}
 use Rattle.reader.specs.Documents.{start_of, Written, AnswersToEnd, ReadsToEnd}
 use Rattle.reader.specs.Holds.{Holds}
-use Rattle.reader.specs.Promise.{Course, not_begun, begun, course_of, takes, refuses, reading_says, answer_of, table_of, TablesLeft, Begun, CertificateRead}
-use Rattle.reader.specs.declared.Reading.{Reading}
-use Rattle.reader.specs.declared.Reading.TheVariants.{Taken, Refused}
+use Rattle.reader.specs.Promise.{Course, not_begun, begun, course_of, takes, refuses, Reading, reading_says, answer_of, table_of, TablesLeft, Begun, CertificateRead}
 use Rattle.reader.proofs.Courses.{begun_course, by_course}
 use Rattle.reader.proofs.Holding.{row_held, solution_held}
 use Rattle.reader.proofs.Fill.{filled_cleared}
@@ -70,20 +63,20 @@ module _ {text : Bytes} {index : List ℕ} {values : List ℤ} {rows : List ℕ}
             };
       }
 
-  pub small_table : has_cells (length index) (length values) (length rows) ≡ false → Equations text index values rows index values rows (Refused TableTooSmall 0)
+  pub small_table : has_cells (length index) (length values) (length rows) ≡ false → Equations text index values rows index values rows (Err (record { reason = TableTooSmall; line = 0 }))
   small_table e = of_course (not_begun 1) (rw e refl) refl refl refl refl
 
-  pub long_text : has_cells (length index) (length values) (length rows) ≡ true → is_short text ≡ false → Equations text index values rows index values rows (Refused TextTooLong 0)
+  pub long_text : has_cells (length index) (length values) (length rows) ≡ true → is_short text ≡ false → Equations text index values rows index values rows (Err (record { reason = TextTooLong; line = 0 }))
   long_text e f = of_course (not_begun 2) (rw (e, f) refl) refl refl refl refl
 
-  module _ (b : Begun text index values rows) {index₀ : List ℕ} {values₀ : List ℤ} {rows₀ : List ℕ} {index₁ : List ℕ} {values₁ : List ℤ} {rows₁ : List ℕ} {header : Header} {s : Step} (h : ReadsToEnd text header (state (start_of text) index₀ values₀ rows₀) index₁ values₁ rows₁ s) where
+  module _ (b : Begun text index values rows) {index₀ : List ℕ} {values₀ : List ℤ} {rows₀ : List ℕ} {index₁ : List ℕ} {values₁ : List ℤ} {rows₁ : List ℕ} {s : Result Header Stop} (h : ReadsToEnd text (state (start_of text) index₀ values₀ rows₀) index₁ values₁ rows₁ s) where
     -- it was read to the end, into tables that were cleared
-    pub taken_equations : {n : ℕ} {c : Cursor} → s ≡ Next n c
+    pub taken_equations : {header : Header} → s ≡ Ok header
         → index₀ ≡ replicate (length index) 0 → values₀ ≡ replicate (length values) (pos 0) → rows₀ ≡ replicate (length rows) 0
-        → Equations text index values rows index₁ values₁ rows₁ (Taken header)
+        → Equations text index values rows index₁ values₁ rows₁ (Ok header)
     unfolding index_table value_table row_table
-    taken_equations e i v r =
-        let w : Written text header (state (start_of text) index₀ values₀ rows₀) index₁ values₁ rows₁ = subst (AnswersToEnd text header (state (start_of text) index₀ values₀ rows₀) index₁ values₁ rows₁) e h.is in
+    taken_equations {header} e i v r =
+        let w : Written text header (state (start_of text) index₀ values₀ rows₀) index₁ values₁ rows₁ = subst (AnswersToEnd text (state (start_of text) index₀ values₀ rows₀) index₁ values₁ rows₁) e h.is in
         let f = fits (read_sound text w.tree w.reads) b.short in
         of_course (begun (taken w.tree)) (begun_course text index values rows b ∙ ap begun w.reads) (ap takes w.header_is)
         (w.index_is ∙ (λ k. sets (i k) 0 (cells certificate w.tree)) ∙ filled_cleared 0 (length index) (cells certificate w.tree) (omega (arith, f.index_inside, b.index-cells)))
@@ -91,12 +84,12 @@ module _ {text : Bytes} {index : List ℕ} {values : List ℤ} {rows : List ℕ}
         (w.rows_is ∙ (λ k. laid (r k) (marks certificate w.tree 0 0)))
 
     -- it was refused, and the tables were cleared again
-    pub refused_equations : {q : Refusal} {p line : ℕ} → s ≡ Stop q p → line ≡ line_of text p → {index' : List ℕ} {values' : List ℤ} {rows' : List ℕ}
+    pub refused_equations : {stop : Stop} {line : ℕ} → s ≡ Err stop → line ≡ line_of text stop.place → {index' : List ℕ} {values' : List ℤ} {rows' : List ℕ}
         → index' ≡ replicate (length index) 0 → values' ≡ replicate (length values) (pos 0) → rows' ≡ replicate (length rows) 0
-        → Equations text index values rows index' values' rows' (Refused q line)
-    refused_equations {q} {p} e l i v r =
-        let w : read_of text ≡ refused (refusal_number q) p = subst (AnswersToEnd text header (state (start_of text) index₀ values₀ rows₀) index₁ values₁ rows₁) e h.is in
-        of_course (begun (refused (refusal_number q) p)) (begun_course text index values rows b ∙ ap begun w) (ap (refuses (refusal_number q)) l) i v r
+        → Equations text index values rows index' values' rows' (Err (record { reason = stop.reason; line = line }))
+    refused_equations {stop} e l i v r =
+        let w : read_of text ≡ refused (refusal_number stop.reason) stop.place = subst (AnswersToEnd text (state (start_of text) index₀ values₀ rows₀) index₁ values₁ rows₁) e h.is in
+        of_course (begun (refused (refusal_number stop.reason) stop.place)) (begun_course text index values rows b ∙ ap begun w) (ap (refuses (refusal_number stop.reason)) l) i v r
 
 -- ---- demand 3
 
@@ -104,22 +97,22 @@ module _ {text : Bytes} {index : List ℕ} {values : List ℤ} {rows : List ℕ}
   answer_is : Begun text index values rows → reading_says r ≡ answer_of text (begun (read_of text))
   answer_is b = e.answer ∙ ap (answer_of text) (begun_course text index values rows b)
 
-  read_tree : Begun text index values rows → (header : Header) × (r ≡ Taken header) → (tree : Tree) × (read_of text ≡ taken tree)
+  read_tree : Begun text index values rows → (header : Header) × (r ≡ Ok header) → (tree : Tree) × (read_of text ≡ taken tree)
   read_tree b t = go (read_of text) refl (sym (ap reading_says t.1) ∙ answer_is b)
     where
       go : (x : ReadText) → read_of text ≡ x → takes t.0 ≡ answer_of text (begun x) → (tree : Tree) × (read_of text ≡ taken tree)
       go (taken tree) p q = (tree, p)
       go (refused k m) p q = no (cc)
 
-  tree_read : Begun text index values rows → (tree : Tree) × (read_of text ≡ taken tree) → (header : Header) × (r ≡ Taken header)
+  tree_read : Begun text index values rows → (tree : Tree) × (read_of text ≡ taken tree) → (header : Header) × (r ≡ Ok header)
   tree_read b t = go r refl (answer_is b ∙ ap (λ (x : ReadText). answer_of text (begun x)) t.1)
     where
-      go : (x : Reading) → r ≡ x → reading_says x ≡ takes (header_of t.0) → (header : Header) × (r ≡ Taken header)
-      go (Taken header) p q = (header, p)
-      go (Refused k m) p q = no (cc)
+      go : (x : Reading) → r ≡ x → reading_says x ≡ takes (header_of t.0) → (header : Header) × (r ≡ Ok header)
+      go (Ok header) p q = (header, p)
+      go (Err k) p q = no (cc)
 
   -- a text that was taken was begun to be read
-  taken_begun : (header : Header) × (r ≡ Taken header) → Begun text index values rows
+  taken_begun : (header : Header) × (r ≡ Ok header) → Begun text index values rows
   taken_begun t =
       by_course text index values rows (λ c. takes t.0 ≡ answer_of text c → Begun text index values rows) (λ q. no (cc)) (λ q. no (cc)) (λ b q. b)
       (sym (ap reading_says t.1) ∙ e.answer)

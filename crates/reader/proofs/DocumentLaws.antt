@@ -1,8 +1,9 @@
 -- What the proof of a document cites: its sections one after another, and the header that they make.
 -- Assumes nothing.
 use mathlib.Core.Path.{◌≡◌, refl, sym, ap, ◌∙◌, subst}
-use mathlib.Core.List.{List, []}
-use Prim.Native.Nat.{ℕ, suc, ◌+◌, ◌*◌, ◌≤◌, min}
+use mathlib.Core.List.{List}
+use Rattle.std.specs.Prelude.{Ok}
+use Prim.Native.Nat.{ℕ, suc, ◌+◌, ◌*◌, ◌≤◌}
 use native.Mathlib.Nat.{zero-add}
 use native.Mathlib.Omega.{arith}
 use lib.IntN.{ℤ}
@@ -20,18 +21,18 @@ use Rattle.grammar.specs.Layout.{gather, cells, values, marks}
 use Rattle.grammar.specs.Contents.{integers_cells, objective_cells, constraints_cells, term_values, constraints_values}
 use Rattle.grammar.proofs.Contents.{variables_lay, integers_lay, objective_lay, constraints_lay}
 use Rattle.grammar.proofs.Agreement.{sound}
-use Rattle.symbol_reader.specs.Steps.{State, Went, any}
+use Rattle.symbol_reader.specs.Steps.{State, Went, Answer, any}
 use Rattle.symbol_reader.specs.Follows.{Always, Follows, below}
 use Rattle.symbol_reader.specs.Leaves.{names_in}
 use Rattle.symbol_reader.specs.Marks.{Fingerprinted}
-use Rattle.symbol_reader.specs.declared.Step.{Step}
-use Rattle.symbol_reader.specs.declared.Step.TheVariants.{Next}
-use Rattle.symbol_reader.proofs.FollowsLaws.{follows_told, view_follows}
+use Rattle.symbol_reader.specs.declared.Cursor.{Cursor}
+use Rattle.symbol_reader.specs.declared.Next.{Next}
+use Rattle.symbol_reader.proofs.FollowsLaws.{view_follows}
 use Rattle.symbol_reader.proofs.NamesLaws.{marked-laid}
 use Rattle.row_reader.proofs.RowNames.{rows-marked}
-use Rattle.section_reader.specs.Sections.{number_of, cells_of, values_of, Where, SaysObjective}
-use Rattle.section_reader.specs.declared.problem.ObjectiveAnswer.{ObjectiveAnswer}
-use Rattle.section_reader.proofs.SectionLaws.{Known, Stays, stays, stays_on, then_known, follows_known, known_cells, known_values}
+use Rattle.section_reader.specs.Sections.{SaysObjective}
+use Rattle.section_reader.specs.declared.problem.Objective.{Objective as ObjectiveRead}
+use Rattle.section_reader.proofs.SectionLaws.{Known, then_known}
 use Rattle.reader.specs.Documents.{start_of, proof_part, SaysProof}
 use Rattle.reader.specs.declared.documents.Proof.{Proof}
 
@@ -51,66 +52,60 @@ unfolding gather
 version_takes u = (refl, refl)
 
 -- the header that the code makes: of n, of the answers to INT, OBJ and CON, of m and of the proof's answers
-abbrev header_by : ℕ → ℕ → ObjectiveAnswer → ℕ → Proof → ℕ → ℕ → Header
+abbrev header_by : ℕ → ℕ → ObjectiveRead → ℕ → Proof → ℕ → ℕ → Header
 header_by n listed o m p claim ends =
     record { variables = n; integers = listed; maximize = o.maximize; objective = o.terms; given = m; rows = p.rows; solutions = p.solutions; claim = claim; ends = ends; relation = p.relation; derivation = p.derivation }
 
 -- the grammar after the variables
-abbrev Rest : ℕ → Format ((i : Integers) × ((o : Objective) × ((k : Constraints) × ((l : Relation) × ((z : Solutions) × Derivations)))))
+abbrev pub Rest : ℕ → Format ((i : Integers) × ((o : Objective) × ((k : Constraints) × ((l : Relation) × ((z : Solutions) × Derivations)))))
 Rest n = then (integers n) (λ i. then (objective_section n) (λ o. then (constraints n) (λ k. proof_part n k)))
 
-module _ {n m : ℕ} {o : ObjectiveAnswer} {p : Proof} {prints : List ℕ} {text : Bytes} {s : Step} {ix₀ : List ℕ} {vs₀ : List ℤ} {rs₀ : List ℕ} {r₁ : Step} {ix₁ : List ℕ} {vs₁ : List ℤ} {rs₁ : List ℕ} {r₂ : Step} {ix₂ : List ℕ} {vs₂ : List ℤ} {rs₂ : List ℕ} {r₃ : Step} {ix₃ : List ℕ} {vs₃ : List ℤ} {rs₃ : List ℕ} {ix₄ : List ℕ} {vs₄ : List ℤ} {rs₄ : List ℕ} {r₅ : Step} {ix₅ : List ℕ} {vs₅ : List ℤ} {rs₅ : List ℕ} {ix₆ : List ℕ} {vs₆ : List ℤ} {rs₆ : List ℕ}
-    {listed claim ends : ℕ} (start : s ≡ Next 0 (start_of text)) (few : n ≡ min (number_of r₂) most_variables) (given : m ≡ min (number_of r₅) most_rows)
-    (h₁ : Follows Always (λ _. version) any text s ix₀ vs₀ rs₀ ix₁ vs₁ rs₁ r₁) (h₂ : Follows Always (λ _. variables) (λ (v : Variables). below (suc most_variables) v.count) text r₁ ix₁ vs₁ rs₁ ix₂ vs₂ rs₂ r₂) (h₃ : Follows Always (λ _. integers n) (λ (i : Integers). below (suc n) i.count) text r₂ ix₂ vs₂ rs₂ ix₃ vs₃ rs₃ r₃)
-    (h₄ : Follows Always (λ _. objective_section n) (λ b i. SaysObjective r₃ b o) text r₃ ix₃ vs₃ rs₃ ix₄ vs₄ rs₄ o.answer) (h₅ : Follows Always (λ _. constraints n) (λ (k : Constraints) i. below (suc most_rows) k.count i × Fingerprinted (row_names k.rows) prints) text o.answer ix₄ vs₄ rs₄ ix₅ vs₅ rs₅ r₅)
-    (h₆ : (k : Constraints) → k.count ≡ m → Follows (Where ((names_in text (slice 0 (4 * m) rs₅) ≡ row_names k.rows) × Fingerprinted (row_names k.rows) prints)) (λ _. proof_part n k) (λ a i. SaysProof k a p) text r₅ ix₅ vs₅ rs₅ ix₆ vs₆ rs₆ p.answer)
-    (listed-is : listed ≡ number_of r₃) (claim-is : claim ≡ cells_of r₅) (ends_is : ends ≡ values_of r₅) where
-  -- a refusal is handed on from any section to the last
-  last : Stays r₅ ix₅ vs₅ rs₅ ix₆ vs₆ rs₆ p.answer
-  last = stays (h₆ (record { count = m; bounds = 0; rows = [] }) refl)
+-- a certificate begins at its start
+pub from_start : {f : Format Tree} {tells : Tree → ℕ → Type 0} {text : Bytes} {c : Cursor} {ix : List ℕ} {vs : List ℤ} {rs : List ℕ} {ix' : List ℕ} {vs' : List ℤ} {rs' : List ℕ} {z : Answer}
+    → c ≡ start_of text → Follows Always f tells text c ix vs rs ix' vs' rs' z → Follows Always f tells text (start_of text) ix vs rs ix' vs' rs' z
+from_start {f} {tells} {text} {ix = ix} {vs} {rs} {ix'} {vs'} {rs'} {z} e h = subst (λ (c : Cursor). Follows Always f tells text c ix vs rs ix' vs' rs' z) e h
 
-  module _ {u : Unit {0}} {v : Variables} {i : Integers} {b : Objective} {k : Constraints} (k₁ : Known Always (λ _. version) any text s ix₀ vs₀ rs₀ ix₁ vs₁ rs₁ r₁ u) (k₂ : Known Always (λ _. variables) (λ (v : Variables). below (suc most_variables) v.count) text r₁ ix₁ vs₁ rs₁ ix₂ vs₂ rs₂ r₂ v) (k₃ : Known Always (λ _. integers n) (λ (i : Integers). below (suc n) i.count) text r₂ ix₂ vs₂ rs₂ ix₃ vs₃ rs₃ r₃ i)
-      (k₄ : Known Always (λ _. objective_section n) (λ b i. SaysObjective r₃ b o) text r₃ ix₃ vs₃ rs₃ ix₄ vs₄ rs₄ o.answer b) (k₅ : Known Always (λ _. constraints n) (λ (k : Constraints) i. below (suc most_rows) k.count i × Fingerprinted (row_names k.rows) prints) text o.answer ix₄ vs₄ rs₄ ix₅ vs₅ rs₅ r₅ k) where
-    -- where the objective stands, and the claim
-    objective-cell : cells_of r₃ ≡ 1 + length (integers_cells i)
-    objective-cell = omega (arith, ap cells_of start, known_cells k₁, known_cells k₂, known_cells k₃, (version_takes u).0, ap length (variables_lay.cells_are v), ap length ((integers_lay n).cells_are i))
+module _ {text : Bytes} {c : Cursor} {ix₀ : List ℕ} {vs₀ : List ℤ} {rs₀ : List ℕ} {x₁ : Next} {ix₁ : List ℕ} {vs₁ : List ℤ} {rs₁ : List ℕ} {x₂ : Next} {ix₂ : List ℕ} {vs₂ : List ℤ} {rs₂ : List ℕ} (start : c ≡ start_of text) where
+  -- the sections after the variables, of which there are as many as their number says
+  pub after_variables : {r₁ r₂ : Answer} → Follows Always version any text c ix₀ vs₀ rs₀ ix₁ vs₁ rs₁ r₁ → r₁ ≡ Ok x₁ → Follows Always variables (λ (v : Variables). below (suc most_variables) v.count) text x₁.cursor ix₁ vs₁ rs₁ ix₂ vs₂ rs₂ r₂ → r₂ ≡ Ok x₂
+      → {tells : Tree → ℕ → Type 0} {ix : List ℕ} {vs : List ℤ} {rs : List ℕ} {z : Answer}
+      → ((u : Unit {0}) (v : Variables) → Known Always version any text c ix₀ vs₀ rs₀ ix₁ vs₁ rs₁ x₁ u → Known Always variables (λ (v : Variables). below (suc most_variables) v.count) text x₁.cursor ix₁ vs₁ rs₁ ix₂ vs₂ rs₂ x₂ v → x₂.number ≤ most_variables
+      → Follows Always (Rest x₂.number) (λ y. tells (record { variables = v; integers = y.0; objective = y.1.0; constraints = y.1.1.0; relation = y.1.1.1.0; solutions = y.1.1.1.1.0; derivations = y.1.1.1.1.1 })) text x₂.cursor ix₂ vs₂ rs₂ ix vs rs z)
+      → Follows Always certificate tells text (start_of text) ix₀ vs₀ rs₀ ix vs rs z
+  after_variables h₁ was₁ h₂ was₂ {tells} {ix} {vs} {rs} {z} k =
+      from_start start
+      (view_follows (λ y i t. t)
+      (then_known h₁ was₁
+      (λ u k₁. then_known h₂ was₂
+      (λ v k₂. subst (λ (n : ℕ). Follows Always (Rest n) (λ y. tells (record { variables = v; integers = y.0; objective = y.1.0; constraints = y.1.1.0; relation = y.1.1.1.0; solutions = y.1.1.1.1.0; derivations = y.1.1.1.1.1 })) text x₂.cursor ix₂ vs₂ rs₂ ix vs rs z) (sym k₂.says.0)
+      (k u v k₁ k₂ (omega (arith, k₂.says.1)))))))
 
-    objective-number : values_of r₃ ≡ 0
-    objective-number = omega (arith, ap values_of start, known_values k₁, known_values k₂, known_values k₃, (version_takes u).1, ap length (variables_lay.values_are v), ap length ((integers_lay n).values_are i))
-
-    claim-cell : cells_of r₅ ≡ 1 + length (integers_cells i) + length (objective_cells b) + length (constraints_cells k)
-    claim-cell = omega (arith, objective-cell, known_cells k₄, known_cells k₅, ap length ((objective_lay n).cells_are b), ap length ((constraints_lay n).cells_are k))
-
-    claim-number : values_of r₅ ≡ length (term_values b.terms) + length (constraints_values k)
-    claim-number = omega (arith, objective-number, known_values k₄, known_values k₅, ap length ((objective_lay n).values_are b), ap length ((constraints_lay n).values_are k))
-
-    given-count : m ≡ k.count
-    given-count = omega (arith, given, ap number_of k₅.after, k₅.says.0.0, k₅.says.0.1)
-
+  module _ {x₃ : Next} {ix₃ : List ℕ} {vs₃ : List ℤ} {rs₃ : List ℕ} {o : ObjectiveRead} {ix₄ : List ℕ} {vs₄ : List ℤ} {rs₄ : List ℕ} {x₅ : Next} {ix₅ : List ℕ} {vs₅ : List ℤ} {rs₅ : List ℕ} {prints : List ℕ} {u : Unit {0}} {v : Variables} {i : Integers} {b : Objective} {k : Constraints}
+      (k₁ : Known Always version any text c ix₀ vs₀ rs₀ ix₁ vs₁ rs₁ x₁ u) (k₂ : Known Always variables (λ (v : Variables). below (suc most_variables) v.count) text x₁.cursor ix₁ vs₁ rs₁ ix₂ vs₂ rs₂ x₂ v)
+      (k₃ : Known Always (integers x₂.number) (λ (i : Integers). below (suc x₂.number) i.count) text x₂.cursor ix₂ vs₂ rs₂ ix₃ vs₃ rs₃ x₃ i) (k₄ : Known Always (objective_section x₂.number) (λ b j. SaysObjective x₃.cursor b o) text x₃.cursor ix₃ vs₃ rs₃ ix₄ vs₄ rs₄ (record { number = 0; cursor = o.cursor }) b)
+      (k₅ : Known Always (constraints x₂.number) (λ (k : Constraints) j. below (suc most_rows) k.count j × Fingerprinted (row_names k.rows) prints) text o.cursor ix₄ vs₄ rs₄ ix₅ vs₅ rs₅ x₅ k) where
     -- the names of the given rows, which the sections of the proof ask for
-    names : (names_in text (slice 0 (4 * m) rs₅) ≡ row_names k.rows) × Fingerprinted (row_names k.rows) prints
-    names = (ap (λ (j : ℕ). names_in text (slice 0 (4 * j) rs₅)) given-count ∙ constraints-names n k₅.went (omega (arith, k₅.room.of_rows.rows_long)), k₅.says.1)
+    pub names_known : names_in text (slice 0 (4 * x₅.number) rs₅) ≡ row_names k.rows
+    names_known = ap (λ (j : ℕ). names_in text (slice 0 (4 * j) rs₅)) (sym k₅.says.0.0) ∙ constraints-names x₂.number k₅.went (omega (arith, k₅.room.of_rows.rows_long))
+
+    -- where the objective stands, and the claim
+    objective-cell : x₃.cursor.cells ≡ 1 + length (integers_cells i)
+    objective-cell =
+        omega (arith, ap (λ (d : Cursor). d.cells) start, k₁.went.cells_at, k₂.went.cells_at, k₃.went.cells_at, (version_takes u).0, ap length (variables_lay.cells_are v), ap length ((integers_lay x₂.number).cells_are i))
+
+    objective-number : x₃.cursor.values ≡ 0
+    objective-number =
+        omega (arith, ap (λ (d : Cursor). d.values) start, k₁.went.values-at, k₂.went.values-at, k₃.went.values-at, (version_takes u).1, ap length (variables_lay.values_are v), ap length ((integers_lay x₂.number).values_are i))
+
+    claim-cell : x₅.cursor.cells ≡ 1 + length (integers_cells i) + length (objective_cells b) + length (constraints_cells k)
+    claim-cell = omega (arith, objective-cell, k₄.went.cells_at, k₅.went.cells_at, ap length ((objective_lay x₂.number).cells_are b), ap length ((constraints_lay x₂.number).cells_are k))
+
+    claim-number : x₅.cursor.values ≡ length (term_values b.terms) + length (constraints_values k)
+    claim-number = omega (arith, objective-number, k₄.went.values-at, k₅.went.values-at, ap length ((objective_lay x₂.number).values_are b), ap length ((constraints_lay x₂.number).values_are k))
 
     -- the header is that of the tree
-    headed : {l : Relation} {z : Solutions} {d : Derivations} → n ≡ v.count → SaysProof k (l, (z, d)) p → header_by n listed o m p claim ends ≡ header_of (record { variables = v; integers = i; objective = b; constraints = k; relation = l; solutions = z; derivations = d })
-    headed counted t =
+    pub headed : {l : Relation} {z : Solutions} {d : Derivations} {p : Proof} → SaysProof k (l, (z, d)) p
+        → header_by x₂.number x₃.number o x₅.number p x₅.cursor.cells x₅.cursor.values ≡ header_of (record { variables = v; integers = i; objective = b; constraints = k; relation = l; solutions = z; derivations = d })
+    headed t =
         let terms = k₄.says.terms ∙ (λ j. record { cell = objective-cell j + 2; number = objective-number j; count = b.terms.count }) in
-        let ints = listed-is ∙ ap number_of k₃.after ∙ sym k₃.says.0 in
-        let cell = claim-is ∙ claim-cell in
-        let number = ends_is ∙ claim-number in
-        λ j. record { variables = counted j; integers = ints j; maximize = k₄.says.direction j; objective = terms j; given = given-count j; rows = t.rows j; solutions = t.solutions j; claim = cell j; ends = number j; relation = t.relation j; derivation = t.derivation j }
-
-  -- the sections after the variables
-  after-variables : {u : Unit {0}} {v : Variables} → Known Always (λ _. version) any text s ix₀ vs₀ rs₀ ix₁ vs₁ rs₁ r₁ u → Known Always (λ _. variables) (λ (v : Variables). below (suc most_variables) v.count) text r₁ ix₁ vs₁ rs₁ ix₂ vs₂ rs₂ r₂ v
-      → Follows Always (λ _. Rest v.count) (λ x j. header_by n listed o m p claim ends ≡ header_of (record { variables = v; integers = x.0; objective = x.1.0; constraints = x.1.1.0; relation = x.1.1.1.0; solutions = x.1.1.1.1.0; derivations = x.1.1.1.1.1 })) text r₂ ix₂ vs₂ rs₂ ix₆ vs₆ rs₆ p.answer
-  after-variables {v = v} k₁ k₂ =
-      let counted : n ≡ v.count = omega (arith, few, ap number_of k₂.after, k₂.says.0, k₂.says.1) in
-      subst (λ (c : ℕ). Follows Always (λ _. Rest c) (λ x j. header_by n listed o m p claim ends ≡ header_of (record { variables = v; integers = x.0; objective = x.1.0; constraints = x.1.1.0; relation = x.1.1.1.0; solutions = x.1.1.1.1.0; derivations = x.1.1.1.1.1 })) text r₂ ix₂ vs₂ rs₂ ix₆ vs₆ rs₆ p.answer) counted
-      (then_known h₃ (stays_on h₄ (stays_on h₅ last))
-      (λ i k₃. then_known h₄ (stays_on h₅ last)
-      (λ b k₄. then_known h₅ last
-      (λ k k₅. follows_told (λ a j c e t. headed k₁ k₂ k₃ k₄ k₅ counted t) (follows_known k₅.after refl (names k₁ k₂ k₃ k₄ k₅) (h₆ k (sym (given-count k₁ k₂ k₃ k₄ k₅))))))))
-
-  pub document_follows : Follows Always (λ _. certificate) (λ t j. header_by n listed o m p claim ends ≡ header_of t) text s ix₀ vs₀ rs₀ ix₆ vs₆ rs₆ p.answer
-  document_follows =
-      view_follows (λ x j t. t) (then_known h₁ (stays_on h₂ (stays_on h₃ (stays_on h₄ (stays_on h₅ last)))) (λ u k₁. then_known h₂ (stays_on h₃ (stays_on h₄ (stays_on h₅ last))) (λ v k₂. after-variables k₁ k₂)))
+        λ j. record { variables = sym k₂.says.0 j; integers = sym k₃.says.0 j; maximize = k₄.says.direction j; objective = terms j; given = sym k₅.says.0.0 j; rows = t.rows j; solutions = t.solutions j; claim = claim-cell j; ends = claim-number j; relation = t.relation j; derivation = t.derivation j }

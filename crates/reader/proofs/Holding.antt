@@ -1,23 +1,20 @@
 -- Tables that are those of a tree hold its certificate, in 01's words: each row and solution by its mark (`Kept`), whose row is
 -- found in the row table, and whose positions are those of its cells and its values.
 -- Assumes nothing.
-use mathlib.Core.Path.{◌≡◌, refl, sym, ◌∙◌, ap, ap₂, subst}
-use mathlib.Core.List.{List, [], ◌∷◌, ◌++◌, Memᴰ}
-use Prim.Native.Nat.{ℕ, ◌+◌, ◌*◌, ◌≤◌}
+use mathlib.Core.Path.{◌≡◌, sym, ◌∙◌, ap, ap₂, subst}
+use mathlib.Core.List.{List, ◌∷◌, ◌++◌}
+use Prim.Native.Nat.{ℕ, ◌*◌, ◌≤◌}
 use native.Mathlib.Nat.{add-zero}
-use native.Mathlib.Omega.{arith}
 use lib.IntN.{ℤ, pos}
 use lib.ListN.{length, get_or}
-use lib.Seq.{slice}
 use Rattle.text.specs.Bytes.{Bytes}
 use Rattle.text.specs.Tokens.{Token}
-use Rattle.tables.specs.Limits.{most_rows, row_cells}
+use Rattle.tables.specs.Limits.{row_cells}
 use Rattle.arithmetic.specs.declared.Fraction.{Fraction}
 use Rattle.grammar.specs.Tree.{Row, Solution, Tree}
-use Rattle.grammar.specs.Layout.{Mark}
 use Rattle.grammar.specs.Tables.{by_turns, index_table, value_table, row_table}
 use Rattle.grammar.specs.Texts.{SpellsTree}
-use Rattle.grammar.specs.Contents.{row_index_cells, row_values, side_values, term_cells, term_values}
+use Rattle.grammar.specs.Contents.{side_values}
 use Rattle.grammar.proofs.Names.{names_stand}
 use Rattle.grammar.specs.Positions.{StandsAt}
 use Rattle.grammar.proofs.Positions.{stands_here, stands_next, stands_slice}

@@ -1,6 +1,6 @@
 -- The reading of the whole: from the start of the text to its end.
 -- Assumes nothing.
-use Rattle.std.specs.Prelude.{◌≡◌, List, ℕ, ◌+◌, ℤ}
+use Rattle.std.specs.Prelude.{◌≡◌, ⊤, Result, Ok, Err, List, ℕ, ◌+◌, ℤ}
 use Rattle.std.proofs.lemmas.List.Edits.{sets}
 use Rattle.text.specs.Bytes.{Bytes}
 use Rattle.text.specs.Comments.{comments_end}
@@ -16,10 +16,9 @@ use Rattle.grammar.specs.Tables.{by_turns, laid}
 use Rattle.grammar.specs.Texts.{taken, refused, read_of}
 use Rattle.grammar.specs.Refusals.{refusal_number}
 use Rattle.grammar.specs.declared.Refusal.TheVariants.{TokenLeft}
+use Rattle.grammar.specs.declared.Stop.{Stop}
 use Rattle.symbol_reader.specs.Steps.{State}
 use Rattle.symbol_reader.specs.declared.Cursor.{Cursor}
-use Rattle.symbol_reader.specs.declared.Step.{Step}
-use Rattle.symbol_reader.specs.declared.Step.TheVariants.{Next, Stop}
 use Rattle.reader.specs.declared.documents.Proof.{Proof}
 
 -- after the comments nothing is written yet
@@ -42,13 +41,12 @@ pub record SaysProof (k : Constraints) (a : (r : Relation) × ((s : Solutions) �
 -- ---- to the end
 
 -- "8 text goes on after the last derivation"
-abbrev pub unless_left : Step → Stream → Step
-unless_left s (end size) = s
-unless_left s (token place bytes o) = Stop TokenLeft place
+abbrev pub unless_left : Stream → Result ⊤ Stop
+unless_left (end size) = Ok tt
+unless_left (token place bytes s) = Err (record { reason = TokenLeft; place = place })
 
-abbrev pub end_of : Bytes → Step → Step
-end_of text (Next n c) = unless_left (Next n c) (rest text c.at)
-end_of text (Stop q p) = Stop q p
+abbrev pub end_of : Bytes → Cursor → Result ⊤ Stop
+end_of text c = unless_left (rest text c.at)
 
 -- a text was read to its end, and the tree that was kept is written into the tables
 pub record Written (text : Bytes) (header : Header) (s : State) (index : List ℕ) (values : List ℤ) (rows : List ℕ) : Type 0 where
@@ -59,10 +57,10 @@ pub record Written (text : Bytes) (header : Header) (s : State) (index : List �
   pub values_is : values ≡ sets s.values 0 (by_turns (L.values certificate tree))
   pub rows_is : rows ≡ laid s.rows (marks certificate tree 0 0)
 
-abbrev pub AnswersToEnd : Bytes → Header → State → List ℕ → List ℤ → List ℕ → Step → Type 0
-AnswersToEnd text header s index values rows (Next n c) = Written text header s index values rows
-AnswersToEnd text header s index values rows (Stop q p) = read_of text ≡ refused (refusal_number q) p
+abbrev pub AnswersToEnd : Bytes → State → List ℕ → List ℤ → List ℕ → Result Header Stop → Type 0
+AnswersToEnd text s index values rows (Ok header) = Written text header s index values rows
+AnswersToEnd text s index values rows (Err stop) = read_of text ≡ refused (refusal_number stop.reason) stop.place
 
 -- the answer of reading a text to its end
-pub record ReadsToEnd (text : Bytes) (header : Header) (s : State) (index : List ℕ) (values : List ℤ) (rows : List ℕ) (r : Step) : Type 0 where
-  pub is : AnswersToEnd text header s index values rows r
+pub record ReadsToEnd (text : Bytes) (s : State) (index : List ℕ) (values : List ℤ) (rows : List ℕ) (r : Result Header Stop) : Type 0 where
+  pub is : AnswersToEnd text s index values rows r

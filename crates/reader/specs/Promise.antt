@@ -1,7 +1,7 @@
 -- THE PROMISE of Read a certificate, for every text and all tables (document 01, "Tables lent by the caller", "Reasons of
 -- refusal" and "Spelling").
 -- Assumes nothing.
-use Rattle.std.specs.Prelude.{◌≡◌, Bool, cond, ◌&&◌, List, ◌↔◌, ℕ, ◌≤◌, leb, ℤ, pos, length, replicate}
+use Rattle.std.specs.Prelude.{◌≡◌, Result, Ok, Err, cond, List, ◌↔◌, ℕ, ◌≤◌, ℤ, pos, length, replicate}
 use Rattle.text.specs.Bytes.{Bytes}
 use Rattle.text.specs.Lines.{line_of}
 use Rattle.tables.specs.declared.Header.{Header}
@@ -11,9 +11,8 @@ use Rattle.grammar.specs.Header.{header_of}
 use Rattle.grammar.specs.Tables.{index_table, value_table, row_table}
 use Rattle.grammar.specs.Texts.{Certificate, SpellsCertificate, ReadText, taken, refused, read_of}
 use Rattle.grammar.specs.Refusals.{refusal_number}
+use Rattle.grammar.specs.declared.Refused.{Refused}
 use Rattle.reader.specs.Holds.{Holds}
-use Rattle.reader.specs.declared.Reading.{Reading}
-use Rattle.reader.specs.declared.Reading.TheVariants.{Taken, Refused}
 
 -- ---- the course of a reading
 
@@ -33,10 +32,13 @@ pub data Answer : Type 0 where
   takes : Header → Answer
   refuses : (reason line : ℕ) → Answer
 
--- for each case of the enum, what 01 calls it
+-- what `read_certificate` answers; for each case of it, what 01 calls it
+abbrev pub Reading : Type 0
+Reading = Result Header Refused
+
 abbrev pub reading_says : Reading → Answer
-reading_says (Taken header) = takes header
-reading_says (Refused reason line) = refuses (refusal_number reason) line
+reading_says (Ok header) = takes header
+reading_says (Err r) = refuses (refusal_number r.reason) r.line
 
 -- the column "line" of 01's table: 0 for 1 and 2, else the line of the token, or of the end
 abbrev pub answer_of : Bytes → Course → Answer
@@ -72,7 +74,7 @@ pub record CertificateRead (text : Bytes) (index : List ℕ) (values : List ℤ)
   pub answer : reading_says r ≡ answer_of text (course_of text (length index) (length values) (length rows))
   pub tables : TablesLeft text index values rows index' values' rows'
   -- taken exactly where the tables and the text have these sizes and "01's grammar .. says that it spells a certificate"
-  pub taken_exactly : ((header : Header) × (r ≡ Taken header)) ↔ (Begun text index values rows × ((c : Certificate) × SpellsCertificate text c))
+  pub taken_exactly : ((header : Header) × (r ≡ Ok header)) ↔ (Begun text index values rows × ((c : Certificate) × SpellsCertificate text c))
   -- "no text spells two"
   pub spelled_once : (c d : Certificate) → SpellsCertificate text c → SpellsCertificate text d → c ≡ d
   -- "the tables then hold the one it spells"
