@@ -7,6 +7,9 @@ use Prim.Native.Nat.{ℕ}
 use native.Mathlib.Omega.{arith}
 use lib.IntN.{ℤ, pos}
 use lib.ListN.{length}
+use Rattle.std.specs.Prelude.{⊤, Result, Ok, Err, MatchResult}
+use Rattle.std.specs.Result.{IsErrAnd}
+use Rattle.text.specs.Lines.{line_of}
 use Rattle.text.specs.Bytes.{Bytes}
 use Rattle.tables.specs.declared.Header.{Header}
 use Rattle.grammar.specs.Tree.{Tree}
@@ -14,24 +17,20 @@ use Rattle.grammar.specs.Header.{header_of}
 use Rattle.grammar.specs.Tables.{index_table, value_table, row_table}
 use Rattle.grammar.specs.Texts.{SpellsTree, ReadText, taken, refused, read_of}
 use Rattle.grammar.proofs.Texts.{read_sound, read_complete}
-use Rattle.grammar.specs.declared.Refusal.{Refusal}
+use Rattle.grammar.specs.declared.Refused.{Refused}
+use Rattle.grammar.specs.declared.Stop.{Stop}
 use Rattle.rules.specs.Check.{check_of}
 use Rattle.rules.specs.Meets.{Meets}
 use Rattle.rules.proofs.Agreement.{check_says}
 use Rattle.reader.specs.Promise as reading
 use Rattle.reader.specs.Promise.{Course, not_begun, begun, course_of, table_of, Begun, CertificateRead}
 use Rattle.reader.proofs.Courses.{begun_course, by_course}
-use Rattle.reader.specs.declared.Reading.{Reading}
-use Rattle.reader.specs.declared.Reading.TheVariants as read
 use Rattle.encoding.specs.Held.{Held}
 use Rattle.encoding.specs.Encodes.{Encodes}
 use Rattle.encoding.proofs.HeldLaws.{held_encodes}
 use Rattle.verdicts.specs.Verdicts.{verdict_says}
-use Rattle.verdicts.specs.declared.Verdict.{Verdict}
 use Rattle.checker.specs.Means.{not_verified, passes, verified_means}
 use Rattle.checker.specs.Promise.{verifies, refuses, verification_says, checked_says, answer_of, CertificateVerified}
-use Rattle.checker.specs.declared.Verification.{Verification}
-use Rattle.checker.specs.declared.Verification.TheVariants.{Verified, Refused}
 
 -- ---- answers
 
@@ -46,6 +45,18 @@ pub refused_reading : (text : Bytes) (course : Course) {n l : ℕ} → reading.r
 refused_reading text (not_begun reason) e = cc
 refused_reading text (begun (taken tree)) e = not_taken (sym e)
 refused_reading text (begun (refused reason place)) e = cc
+
+-- a refusal of checking is at the line of its place
+pub lined : (text : Bytes) (v : Result ⊤ Stop) (a : Result ⊤ Refused) (Q : Stop → Refused → Type 0)
+    → MatchResult v (λ x. a ≡ Ok x) (λ stop. IsErrAnd a (Q stop))
+    → ((stop : Stop) (r : Refused) → Q stop r → r ≡ record { reason = stop.reason; line = line_of text stop.place })
+    → verification_says a ≡ checked_says text (verdict_says v)
+lined text (Ok u) a Q h at = ap verification_says h
+lined text (Err stop) a Q h at = go a h
+  where
+    go : (a : Result ⊤ Refused) → IsErrAnd a (Q stop) → verification_says a ≡ checked_says text (verdict_says (Err stop))
+    go (Ok u) h = absurd h
+    go (Err r) h = ap (λ (r : Refused). verification_says (Err r)) (at stop r h)
 
 -- ---- what a taken text leaves
 
@@ -99,14 +110,14 @@ module _ (text : Bytes) (index : List ℕ) (values : List ℤ) (rows : List ℕ)
 
 -- ---- verified exactly if what is spelled meets the rules
 
-answered : (r : Verification) → verification_says r ≡ verifies → r ≡ Verified
-answered Verified e = refl
-answered (Refused reason line) e = not_verified e
+answered : (r : Result ⊤ Refused) → verification_says r ≡ verifies → r ≡ Ok tt
+answered (Ok u) e = refl
+answered (Err r) e = not_verified e
 
-module _ (text : Bytes) (index : List ℕ) (values : List ℤ) (rows : List ℕ) (r : Verification)
+module _ (text : Bytes) (index : List ℕ) (values : List ℤ) (rows : List ℕ) (r : Result ⊤ Refused)
     (e : verification_says r ≡ answer_of text (course_of text (length index) (length values) (length rows))) where
   -- a text that is verified was begun to be read
-  verified_begun : r ≡ Verified → Begun text index values rows
+  verified_begun : r ≡ Ok tt → Begun text index values rows
   verified_begun v =
       by_course text index values rows (λ c. verifies ≡ answer_of text c → Begun text index values rows)
       (λ q. not_verified (sym q)) (λ q. not_verified (sym q)) (λ b q. b) (sym (ap verification_says v) ∙ e)
@@ -120,7 +131,7 @@ module _ (text : Bytes) (index : List ℕ) (values : List ℤ) (rows : List ℕ)
   verifies_it : (tree : Tree) → SpellsTree text tree → Meets tree → answer_of text (begun (read_of text)) ≡ verifies
   verifies_it tree s m = ap (λ (x : ReadText). answer_of text (begun x)) (read_complete text tree s) ∙ ap (checked_says text) ((check_says tree).1 m)
 
-  pub exactly : (r ≡ Verified) ↔ (Begun text index values rows × ((tree : Tree) × SpellsTree text tree × Meets tree))
+  pub exactly : (r ≡ Ok tt) ↔ (Begun text index values rows × ((tree : Tree) × SpellsTree text tree × Meets tree))
   exactly = (
     λ v. let b = verified_begun v in (b, meets (sym (answered_begun b) ∙ ap verification_says v)),
     λ h. answered r (answered_begun h.0 ∙ verifies_it h.1.0 h.1.1 h.1.2),
@@ -128,10 +139,10 @@ module _ (text : Bytes) (index : List ℕ) (values : List ℤ) (rows : List ℕ)
 
 -- ---- the promise, from reading's
 
-module _ {text : Bytes} {index : List ℕ} {values : List ℤ} {rows : List ℕ} {index' : List ℕ} {values' : List ℤ} {rows' : List ℕ} {r : Reading}
+module _ {text : Bytes} {index : List ℕ} {values : List ℤ} {rows : List ℕ} {index' : List ℕ} {values' : List ℤ} {rows' : List ℕ} {r : Result Header Refused}
     (h : CertificateRead text index values rows index' values' rows' r) where
   -- the answer is the one of 01; reading left the tables
-  promised : (a : Verification) → verification_says a ≡ answer_of text (course_of text (length index) (length values) (length rows)) → CertificateVerified text index values rows index' values' rows' a
+  promised : (a : Result ⊤ Refused) → verification_says a ≡ answer_of text (course_of text (length index) (length values) (length rows)) → CertificateVerified text index values rows index' values' rows' a
   promised a answer =
       record {
         answer = answer;
@@ -140,22 +151,22 @@ module _ {text : Bytes} {index : List ℕ} {values : List ℤ} {rows : List ℕ}
         verified_means = λ v. verified_means text (length index) (length values) (length rows) (sym answer ∙ ap verification_says v);
       }
 
-  -- reading refused
-  pub refused_verified : (reason : Refusal) (line : ℕ) → r ≡ read.Refused reason line → CertificateVerified text index values rows index' values' rows' (Refused reason line)
-  refused_verified reason line e =
-      promised (Refused reason line) (refused_reading text (course_of text (length index) (length values) (length rows)) (sym (ap reading.reading_says e) ∙ h.answer))
+  -- reading refused, and that is handed on
+  pub refused_verified : {refusal : Refused} {z : Result ⊤ Refused} → r ≡ Err refusal → z ≡ Err refusal → CertificateVerified text index values rows index' values' rows' z
+  refused_verified e up =
+      promised _ (ap verification_says up ∙ refused_reading text (course_of text (length index) (length values) (length rows)) (sym (ap reading.reading_says e) ∙ h.answer))
 
-  module _ (li : length index' ≡ length index) (lv : length values' ≡ length values) (lr : length rows' ≡ length rows) (header : Header) (e : r ≡ read.Taken header) where
+  module _ (li : length index' ≡ length index) (lv : length values' ≡ length values) (lr : length rows' ≡ length rows) {header : Header} (e : r ≡ Ok header) where
     the_tree : TakenHeld text index values rows index' values' rows' header
     the_tree =
         let q = h.tables in
         taken_held text index values rows index' values' rows' header (sym (ap reading.reading_says e) ∙ h.answer) q.index_table_lem q.value_table_lem q.row_table_lem li lv lr
 
     -- the tables encode what was read, under its header, and it was checked
-    pub checked_verified : {v w : Verdict} (a : Verification) → ((tree : Tree) → Encodes tree header index' values' rows' → verdict_says v ≡ check_of tree)
-        → v ≡ w → verification_says a ≡ checked_says text (verdict_says w)
+    pub checked_verified : (v : Result ⊤ Stop) {a : Result ⊤ Refused} → ((tree : Tree) → Encodes tree header index' values' rows' → verdict_says v ≡ check_of tree)
+        → verification_says a ≡ checked_says text (verdict_says v)
         → CertificateVerified text index values rows index' values' rows' a
-    checked_verified a check is says =
+    checked_verified v check says =
         let t = the_tree in
-        promised a
-        (says ∙ ap (λ (x : Verdict). checked_says text (verdict_says x)) (sym is) ∙ ap (checked_says text) (check t.tree (subst (λ (x : Header). Encodes t.tree x index' values' rows') (sym t.header_is) (held_encodes t.held))) ∙ sym (ap (answer_of text) t.course_is))
+        promised _
+        (says ∙ ap (checked_says text) (check t.tree (subst (λ (x : Header). Encodes t.tree x index' values' rows') (sym t.header_is) (held_encodes t.held))) ∙ sym (ap (answer_of text) t.course_is))

@@ -12,9 +12,13 @@ use Rattle.rules.specs.Claims.{last_row, is_proved, last_place}
 abbrev pub derivations_of : Tree → List Fraction → Verdict
 derivations_of tree os = each_from (check_derivation tree os) (length tree.constraints.rows) tree.derivations.derivations
 
+-- "Claim, else 17"
+abbrev pub claim_of : Tree → Verdict
+claim_of tree = require (is_proved tree) 17 (last_place tree.derivations.place (last_row tree))
+
 -- "Each derived row .. Claim, else 17"
 abbrev pub proof_of : Tree → List Fraction → Verdict
-proof_of tree os = derivations_of tree os and_then require (is_proved tree) 17 (last_place tree.derivations.place (last_row tree))
+proof_of tree os = derivations_of tree os and_then claim_of tree
 
 -- "some objective is at most ub .. some is at least lb; else 10", and then the proof
 abbrev pub reaching_of : Tree → List Fraction → Verdict

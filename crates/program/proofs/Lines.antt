@@ -1,4 +1,4 @@
--- Lines, part after part.
+-- The line that is printed for a text, and the bytes of a room that came.
 -- Assumes nothing.
 use mathlib.Core.Path.{◌≡◌, sym, ◌∙◌, ap}
 use mathlib.Core.List.{◌++◌}
@@ -11,15 +11,6 @@ use Rattle.tables.specs.Limits.{index_cells, value_cells, row_cells}
 use Rattle.reader.specs.Promise.{course_of}
 use Rattle.checker.specs.Promise.{Answer, answer_of}
 use Rattle.program.specs.Line.{line_for, printed}
-
--- a line that got one more part
-extended : {line' line whole : Bytes} (part : Bytes) → line ≡ whole → line' ≡ line ++ part → line' ≡ whole ++ part
-extended part known h = h ∙ ap (λ (l : Bytes). l ++ part) known
-
--- a line that got five parts in turn
-pub five_parts : {l₁ l₂ l₃ l₄ l₅ : Bytes} (a b c d e : Bytes)
-    → l₁ ≡ a → l₂ ≡ l₁ ++ b → l₃ ≡ l₂ ++ c → l₄ ≡ l₃ ++ d → l₅ ≡ l₄ ++ e → l₅ ≡ (((a ++ b) ++ c) ++ d) ++ e
-five_parts a b c d e h₁ h₂ h₃ h₄ h₅ = extended e (extended d (extended c (extended b h₁ h₂) h₃) h₄) h₅
 
 -- the line for the answer of verifying a text, with tables of as many cells as needed
 pub line_of : (text : Bytes) {line : Bytes} {a : Answer} {i v r : ℕ} → i ≡ index_cells → v ≡ value_cells → r ≡ row_cells

@@ -5,7 +5,6 @@ use Rattle.std.specs.Prelude.{ℕ, zero, suc, ◌+◌, ◌/◌, ◌%◌, ◌≤�
 use Rattle.std.proofs.Common.{ap, arith, leb-true}
 use Rattle.text.specs.Bytes.{Bytes}
 use Rattle.text.specs.Ascii.{ascii}
-use Rattle.io.specs.Counts.{IsPrefixLen}
 use Rattle.tables.specs.Limits.{most_bytes, index_cells, value_cells, row_cells}
 use Rattle.rules.specs.Sentence.Points.{SentenceOf}
 use Rattle.checker.specs.Promise.{Answer, verifies, refuses, answer_of}
@@ -55,9 +54,8 @@ long_refused text h = ap (λ (short : Bool). line_for (answer_of text (cond shor
 
 -- ---- the promise of making the line
 
--- of a room with text, in which so many bytes came, the line (marked ') is made, with so many bytes
-pub record LineMade (room : Bytes) (came : ℕ) (line' : Bytes) (size : ℕ) : Type 0 where
-  pub counted : IsPrefixLen size line'
-  pub line_made : take size line' ≡ printed (take came room)
+-- of a room with text, in which so many bytes came, the line is made
+pub record LineMade (room : Bytes) (came : ℕ) (line : Bytes) : Type 0 where
+  pub line_made : line ≡ printed (take came room)
   -- the room is greater than any text that is read: what fills it is too long, so that no text is verified that was cut off
-  pub full_refused : length room ≤ came → take size line' ≡ ascii "refused 2 0\n"
+  pub full_refused : length room ≤ came → line ≡ ascii "refused 2 0\n"

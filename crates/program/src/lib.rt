@@ -2,7 +2,7 @@
 // reason C and line L in decimal.
 #![tactic(auto)]
 
-ghost use Rattle.std.specs.Prelude.{◌≡◌, take, pos};
+ghost use Rattle.std.specs.Prelude.{◌≡◌, take, Some};
 ghost use Rattle.std.specs.Io.KnownBytes.{Consumes, IsAtEnd};
 ghost use Rattle.program.specs.Line.{printed};
 ghost use Rattle.program.specs.Transcript.{InputAnswered};
@@ -10,20 +10,22 @@ ghost use Rattle.program.specs.Transcript.{InputAnswered};
 mod input;
 mod line;
 
+use arrayvec::ArrayString;
+use input::Input;
 use std::io::{Read, Write};
 
 // The room for a text: one byte more than a text may have, so that what is cut off is never hidden. What fills it is too long.
 pub const ROOM: usize = 32769;
 
-// What a run read, and what it handed over to be written: the bytes that came, at the start of the room; what the last read
-// answered, 0 at the end of the input and -1 where it failed; and the bytes of the line, at the start of `line`.
+// What a run read, and what it handed over to be written: the bytes that came, at the start of the room; how many came with the
+// last read, none at the end of the input, or `None` where it failed; and the line.
+// Kept: memory is fixed, and a read fills a slice of the room, so the text is an array with the count of what came beside it.
 #[derive(Clone, Copy)]
 pub struct Transcript {
     pub text: [u8; ROOM],
     pub came: usize,
-    pub last: isize,
-    pub line: [u8; 50],
-    pub size: usize,
+    pub last: Option<usize>,
+    pub line: ArrayString<50>,
 }
 
 // Writes the line for what came. Where it cannot be written, that is reported on `errors`.
@@ -32,11 +34,11 @@ fn write_line<W: Write, E: Write>(
     errors: &mut E,
     text: &[u8; ROOM],
     came: usize,
-    line: &[u8],
+    line: &str,
 )
     requires { line.now ≡ printed (take came text.now) }
 {
-    if output.write_all(line).is_err() {
+    if output.write_all(line.as_bytes()).is_err() {
         let _ = errors.write_all(b"vipr_check: standard output cannot be written\n");
     }
 }
@@ -46,30 +48,22 @@ fn write_line<W: Write, E: Write>(
 pub fn run<R: Read, W: Write, E: Write>(input: &mut R, output: &mut W, errors: &mut E) -> Transcript
     ensures answered { InputAnswered result }
     ensures bytes { Consumes (R.remaining input.old) (R.remaining input.new) (take result.came result.text) }
-    ensures ended { result.last ≡ pos 0 → IsAtEnd (R.remaining input.new) }
+    ensures ended { result.last ≡ Some 0 → IsAtEnd (R.remaining input.new) }
 {
     let mut text = [0u8; ROOM];
-    let mut line = [0u8; 50];
-    let read = input::read_input(input, &mut text);
-    let came = read.came;
-    let last = read.last;
-    if last < 0 {
+    let Input { came, last } = input::read_input(input, &mut text);
+    let line = if last.is_some() {
+        let line = line::answer(&text, came);
+        write_line(output, errors, &text, came, &line);
+        line
+    } else {
         let _ = errors.write_all(b"vipr_check: standard input cannot be read\n");
-        return Transcript {
-            text: text,
-            came: came,
-            last: last,
-            line: line,
-            size: 0,
-        };
-    }
-    let size = line::answer(&text, came, &mut line);
-    write_line(output, errors, &text, came, &line[..size]);
+        ArrayString::new()
+    };
     Transcript {
-        text: text,
-        came: came,
-        last: last,
-        line: line,
-        size: size,
+        text,
+        came,
+        last,
+        line,
     }
 }

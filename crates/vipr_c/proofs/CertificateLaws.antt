@@ -7,24 +7,22 @@ use Prim.Native.Nat.{ℕ, ◌≤◌, ◌<◌}
 use native.Mathlib.Omega.{arith}
 use lib.IntN.{ℤ}
 use lib.ListN.{length}
+use Rattle.std.specs.Prelude.{⊤, Result, Ok, Err, IfErr}
 use Rattle.text.specs.Bytes.{Bytes}
 use Rattle.tables.specs.Limits.{most_bytes}
 use Rattle.grammar.specs.Texts.{ReadText, taken, refused}
 use Rattle.grammar.specs.Refusals.{refusal_number}
 use Rattle.grammar.specs.declared.Refusal.{Refusal}
+use Rattle.grammar.specs.declared.Refused.{Refused}
 use Rattle.grammar.specs.declared.Refusal.TheVariants.{TableTooSmall, TextTooLong, TokenMissing, WrongKind, OutOfRange, UsedBefore, ValueTooWide, TokenLeft, SolutionFails, ClaimNotReached, RowSpent, ResultTooWide, MultipliersNotSuitable, CannotBeRounded, NoDomination, NoProperSplit, ClaimNotProved, NoSolutionListed}
 use Rattle.rules.specs.Result as rules
 use Rattle.rules.specs.Check.{check_of}
 use Rattle.reader.specs.Promise as reading
 use Rattle.reader.specs.Promise.{Course, begun, course_of, CertificateRead}
 use Rattle.tables.specs.declared.Header.{Header}
-use Rattle.reader.specs.declared.Reading.{Reading}
-use Rattle.reader.specs.declared.Reading.TheVariants as read
 use Rattle.checker.specs.Promise as checking
 use Rattle.checker.specs.Promise.{CertificateVerified}
-use Rattle.checker.specs.declared.Verification.{Verification}
-use Rattle.checker.specs.declared.Verification.TheVariants as verified
-use Rattle.vipr_c.specs.Certificates.{Reply, reply, read_reply, verify_reply, CertificateReturned, VerificationReturned}
+use Rattle.vipr_c.specs.Certificates.{Reply, reply, reply_to, read_reply, verify_reply, CertificateReturned, VerificationReturned}
 use Rattle.vipr_c.proofs.Courses.{line_bound, line_small, returned_exactly}
 
 -- ---- 0 is no reason
@@ -52,56 +50,52 @@ number_positive NoSolutionListed = omega arith
 not-zero : {X : Type 0} (r : Refusal) → refusal_number r ≡ 0 → X
 not-zero r z = absurd (omega (arith, number_positive r))
 
--- the same line, with a number that is worked out
-pub same_line : (line : ℕ) {n m : ℕ} → n ≡ m → reply n line ≡ reply m line
-same_line line e = ap (λ (n : ℕ). reply n line) e
-
 -- ---- reading
 
-abbrev read_replied : Reading → Reply
-read_replied r = read_reply (reading.reading_says r)
+read_replied : (r : Result Header Refused) → reply_to r ≡ read_reply (reading.reading_says r)
+read_replied (Ok header) = refl
+read_replied (Err refusal) = refl
 
 abbrev read_course : Bytes → Course → Reply
 read_course text c = read_reply (reading.answer_of text c)
 
-taken_zero : (r : Reading) → ((read_replied r).status ≡ 0) ↔ ((header : Header) × (r ≡ read.Taken header))
-taken_zero (read.Taken header) = (λ z. (header, refl), λ p. refl)
-taken_zero (read.Refused reason line) =
-    (λ z. not-zero reason z, λ p. let t : read.Refused reason line ≡ read.Taken p.0 = p.1 in absurd (let z : ◌≡◌ {A = ℕ} 0 1 = cc in omega arith))
+taken_zero : (r : Result Header Refused) → ((reply_to r).status ≡ 0) ↔ ((header : Header) × (r ≡ Ok header))
+taken_zero (Ok header) = (λ z. (header, refl), λ p. refl)
+taken_zero (Err refusal) = (λ z. not-zero refusal.reason z, λ p. let t : Err refusal ≡ Ok p.0 = p.1 in cc)
 
 read_lines : (text : Bytes) (read : ReadText) → length text ≤ most_bytes → (read_course text (begun read)).line ≤ 32769
 read_lines text (taken tree) h = omega arith
 read_lines text (refused reason place) h = line_bound text place h
 
-module _ {text : Bytes} {index : List ℕ} {values : List ℤ} {rows : List ℕ} {index' : List ℕ} {values' : List ℤ} {rows' : List ℕ} {r : Reading} (h : CertificateRead text index values rows index' values' rows' r) where
-  read_answer : read_replied r ≡ read_course text (course_of text (length index) (length values) (length rows))
-  read_answer = ap read_reply h.answer
+module _ {text : Bytes} {index : List ℕ} {values : List ℤ} {rows : List ℕ} {index' : List ℕ} {values' : List ℤ} {rows' : List ℕ} {r : Result Header Refused} (h : CertificateRead text index values rows index' values' rows' r) where
+  read_answer : reply_to r ≡ read_course text (course_of text (length index) (length values) (length rows))
+  read_answer = read_replied r ∙ ap read_reply h.answer
 
-  pub read-line : {reason : Refusal} {line : ℕ} → r ≡ read.Refused reason line → line ≤ 32769
-  read-line e = line_small text index values rows read_replied (read_course text) (λ n. refl) r read_answer (read_lines text) e
+  pub read-line : IfErr r (λ refusal. refusal.line ≤ 32769)
+  read-line = line_small text index values rows (read_course text) (λ n. refl) r read_answer (read_lines text)
 
-  pub read_returned : {returned line : ℕ} (a : Reading) → r ≡ a → reply returned line ≡ read_replied a → CertificateReturned text index values rows index' values' rows' returned line
-  read_returned a e q =
-      let p = q ∙ sym (ap read_replied e) in
+  pub read_returned : {returned line : ℕ} → reply returned line ≡ reply_to r → CertificateReturned text index values rows index' values' rows' returned line
+  read_returned q =
       record {
-        answer = p ∙ read_answer;
+        answer = q ∙ read_answer;
         tables = h.tables;
-        taken_exactly = returned_exactly (read_replied r) p (taken_zero r) h.taken_exactly;
+        taken_exactly = returned_exactly (reply_to r) q (taken_zero r) h.taken_exactly;
         spelled_once = h.spelled_once;
         held = h.held;
       }
 
 -- ---- verifying
 
-abbrev verify_replied : Verification → Reply
-verify_replied r = verify_reply (checking.verification_says r)
+verify_replied : (r : Result ⊤ Refused) → reply_to r ≡ verify_reply (checking.verification_says r)
+verify_replied (Ok u) = refl
+verify_replied (Err refusal) = refl
 
 abbrev verify_course : Bytes → Course → Reply
 verify_course text c = verify_reply (checking.answer_of text c)
 
-verified_zero : (r : Verification) → ((verify_replied r).status ≡ 0) ↔ (r ≡ verified.Verified)
-verified_zero verified.Verified = (λ z. refl, λ p. refl)
-verified_zero (verified.Refused reason line) = (λ z. not-zero reason z, λ p. absurd (let z : ◌≡◌ {A = ℕ} 0 1 = cc in omega arith))
+verified_zero : (r : Result ⊤ Refused) → ((reply_to r).status ≡ 0) ↔ (r ≡ Ok tt)
+verified_zero (Ok u) = (λ z. refl, λ p. refl)
+verified_zero (Err refusal) = (λ z. not-zero refusal.reason z, λ p. cc)
 
 checked_lines : (text : Bytes) (v : rules.Verdict) → length text ≤ most_bytes → (verify_reply (checking.checked_says text v)).line ≤ 32769
 checked_lines text (rules.done u) h = omega arith
@@ -111,19 +105,18 @@ verify_lines : (text : Bytes) (read : ReadText) → length text ≤ most_bytes �
 verify_lines text (taken tree) h = checked_lines text (check_of tree) h
 verify_lines text (refused reason place) h = line_bound text place h
 
-module _ {text : Bytes} {index : List ℕ} {values : List ℤ} {rows : List ℕ} {index' : List ℕ} {values' : List ℤ} {rows' : List ℕ} {r : Verification} (h : CertificateVerified text index values rows index' values' rows' r) where
-  verify_answer : verify_replied r ≡ verify_course text (course_of text (length index) (length values) (length rows))
-  verify_answer = ap verify_reply h.answer
+module _ {text : Bytes} {index : List ℕ} {values : List ℤ} {rows : List ℕ} {index' : List ℕ} {values' : List ℤ} {rows' : List ℕ} {r : Result ⊤ Refused} (h : CertificateVerified text index values rows index' values' rows' r) where
+  verify_answer : reply_to r ≡ verify_course text (course_of text (length index) (length values) (length rows))
+  verify_answer = verify_replied r ∙ ap verify_reply h.answer
 
-  pub verify_line : {reason : Refusal} {line : ℕ} → r ≡ verified.Refused reason line → line ≤ 32769
-  verify_line e = line_small text index values rows verify_replied (verify_course text) (λ n. refl) r verify_answer (verify_lines text) e
+  pub verify_line : IfErr r (λ refusal. refusal.line ≤ 32769)
+  verify_line = line_small text index values rows (verify_course text) (λ n. refl) r verify_answer (verify_lines text)
 
-  pub verify_returned : {returned line : ℕ} (a : Verification) → r ≡ a → reply returned line ≡ verify_replied a → VerificationReturned text index values rows index' values' rows' returned line
-  verify_returned a e q =
-      let p = q ∙ sym (ap verify_replied e) in
+  pub verify_returned : {returned line : ℕ} → reply returned line ≡ reply_to r → VerificationReturned text index values rows index' values' rows' returned line
+  verify_returned q =
       record {
-        answer = p ∙ verify_answer;
+        answer = q ∙ verify_answer;
         tables = h.tables;
-        verified_exactly = returned_exactly (verify_replied r) p (verified_zero r) h.verified_exactly;
-        verified_means = λ z. h.verified_means ((verified_zero r).0 (sym (ap (λ (x : Reply). x.status) p) ∙ z));
+        verified_exactly = returned_exactly (reply_to r) q (verified_zero r) h.verified_exactly;
+        verified_means = λ z. h.verified_means ((verified_zero r).0 (sym (ap (λ (x : Reply). x.status) q) ∙ z));
       }

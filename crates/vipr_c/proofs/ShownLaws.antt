@@ -3,7 +3,7 @@
 use mathlib.Core.Path.{◌≡◌, refl, sym, ap, ◌∙◌, subst}
 use mathlib.Core.Bool.{Bool, true, false}
 use mathlib.Core.List.{List, ◌∷◌, ◌++◌}
-use Prim.Native.Nat.{ℕ, ◌+◌, ◌-◌, ◌≤◌, ◌<◌}
+use Prim.Native.Nat.{ℕ, ◌+◌, ◌≤◌}
 use native.Mathlib.Nat.{add-zero}
 use native.Mathlib.Omega.{arith}
 use lib.ListN.{length, drop, length-drop}
@@ -12,7 +12,7 @@ use Rattle.text.specs.Bytes.{Bytes}
 use Rattle.text.proofs.BytesLaws.{clash, leading_le}
 use Rattle.text.specs.Tokens.{Token, TextHasTokens, is_token_byte, token_end}
 use Rattle.text.proofs.ScansLaws.{token_some}
-use Rattle.text.specs.Shown.{begins_token, shown_from, shown_to, shown_at}
+use Rattle.text.specs.Shown.{begins_token, shown_at}
 use Rattle.text.proofs.ShownLaws.{from_begun, to_begun, begun_inside, begun_byte, shown_none, text_token_shown}
 use Rattle.vipr_c.specs.Shown.{TokenMeasured}
 

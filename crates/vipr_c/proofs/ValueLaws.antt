@@ -1,7 +1,7 @@
 -- The number that is returned for a value says what the outcome is.
 -- Assumes nothing.
 use mathlib.Core.Path.{◌≡◌, refl, sym, ap, ◌∙◌, subst}
-use mathlib.Core.Logic.{◌↔◌, ◌⊎◌, ⊎_elim}
+use mathlib.Core.Logic.{◌↔◌, ⊎_elim}
 use Prim.Native.Nat.{ℕ, ◌<◌}
 use native.Mathlib.Omega.{arith}
 use Rattle.text.specs.Bytes.{Bytes}
@@ -49,6 +49,6 @@ module _ (token : Bytes) where
   pub value-given : {o : Outcome Fraction} {f before after : Fraction} → ValueRead token o → o ≡ gives f → after ≡ f → ValueReturned token 0 before after
   value-given h e q = value_returned (gives _) (subst (ValueRead token) e h) (record { returns = refl; stores = q })
 
-  -- a refusal stores nothing
-  pub value-refused : {o : Outcome Fraction} {n : ℕ} {before : Fraction} → ValueRead token o → o ≡ refuses n → ValueReturned token n before before
-  value-refused h e = value_returned (refuses _) (subst (ValueRead token) e h) (record { returns = refl; stores = refl })
+  -- a refusal returns its number and stores nothing
+  pub value-refused : {o : Outcome Fraction} {n returned : ℕ} {before : Fraction} → ValueRead token o → o ≡ refuses n → returned ≡ n → ValueReturned token returned before before
+  value-refused h e q = value_returned (refuses _) (subst (ValueRead token) e h) (record { returns = q; stores = refl })

@@ -1,10 +1,12 @@
 -- Read a certificate and Verify a certificate for C: the promises of `reader` and `checker`, said of the number that is
 -- returned and of the line that is stored.
 -- Assumes nothing.
-use Rattle.std.specs.Prelude.{◌≡◌, List, ◌↔◌, ℕ, ℤ, length}
+use Rattle.std.specs.Prelude.{◌≡◌, Result, Ok, Err, List, ◌↔◌, ℕ, ℤ, length}
 use Rattle.text.specs.Bytes.{Bytes}
 use Rattle.grammar.specs.Tree.{Tree}
 use Rattle.grammar.specs.Texts.{SpellsTree, Certificate, SpellsCertificate}
+use Rattle.grammar.specs.Refusals.{refusal_number}
+use Rattle.grammar.specs.declared.Refused.{Refused}
 use Rattle.rules.specs.Meets.{Meets}
 use Rattle.rules.specs.Sentence.Points.{SentenceOf}
 use Rattle.reader.specs.Promise as reading
@@ -20,6 +22,11 @@ pub record Reply : Type 0 where
 
 abbrev pub reply : ℕ → ℕ → Reply
 reply status line = record { status = status; line = line }
+
+-- 0 and line 0 where there is nothing to refuse; or 01's number of the reason, and the line
+abbrev pub reply_to : {A : Type 0} → Result A Refused → Reply
+reply_to (Ok a) = reply 0 0
+reply_to (Err refused) = reply (refusal_number refused.reason) refused.line
 
 -- 0 and line 0 where the certificate was taken
 abbrev pub read_reply : reading.Answer → Reply

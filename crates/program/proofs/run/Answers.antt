@@ -1,23 +1,20 @@
--- `program::run` meets its contract: reading stops where it may, and the line is that for the bytes that came.
-use mathlib.Core.Path.{◌≡◌, sym, ◌∙◌}
-use borrow.Author.Rules.{rules}
-use Rattle.std.specs.Prelude.{take}
-use mir.Syntax.{w64}
-use mir.Val.{to_z, of_z}
-use Rattle.program.proofs.Inputs.{stopped_as, line_after_lem}
-use Rattle.program.specs.Transcript.{after-means}
+-- `program::run` meets its contract: the line is that for the bytes that came.
+use Rattle.std.proofs.Common.{◌≡◌, sym, ap, ◌∙◌, take, rules}
+use Rattle.program.proofs.Inputs.{line_known, no_line}
+use Rattle.program.specs.Transcript.{line_after, after-means}
 use Rattle.program.proofs.run.Goals as goal
+use Rattle.program.proofs.run.Goals.{then-is_some, else-is_some}
 
 pub returns-clause-answered : goal.returns-clause-answered
 returns-clause-answered g c =
-    let r = c.read_input-read in
-    let last = to_z w64 (of_z w64 r.result.last) in
-    let kept : last ≡ r.result.last = search rules in
+    let r = c.read_input-came in
     let text = take r.result.came r.new.text in
-    let made = line_after_lem last text (search rules) c.answer-size.ensures.line_made in
+    let made : c.if-is_some.line.bytes ≡ line_after r.result.last text = elim c.if-is_some.branch [
+      | then-is_some w ↦ line_known r.result.last text (sym c.is_some.ensures ∙ w.if-is_some.true) (ap (λ l. l.bytes) w.line-is ∙ w.answer-line.ensures.line_made)
+      | else-is_some w ↦ no_line r.result.last text (sym c.is_some.ensures ∙ w.if-is_some.false) (ap (λ l. l.bytes) w.line-is ∙ w.new-line.ensures)
+    ] in
     record {
-      stopped = stopped_as r.result.came r.auto.text kept r.ensures.stopped;
-      counted = c.answer-size.ensures.counted;
+      stopped = search rules;
       line_made = made;
-      verified_means = λ verified. after-means last text (sym made ∙ verified);
+      verified_means = λ verified. after-means r.result.last text (sym made ∙ verified);
     }

@@ -1,8 +1,9 @@
--- `vipr_c::vipr_read_certificate` meets its contract: each arm returns and stores what `reading_says` says of its case.
-use mathlib.Core.Path.{refl}
-use borrow.Author.Rules.{rules}
+-- `vipr_c::vipr_read_certificate` meets its contract: what is replied is what `reading_says` says of the answer.
 use Rattle.vipr_c.proofs.CertificateLaws.{read-line, read_returned}
 use Rattle.vipr_c.proofs.vipr_read_certificate.Goals as goal
 
-pub refused-requires : goal.refused-requires
-refused-requires c = read-line c.read_certificate.ensures c.in-Refused.is
+pub reply-requires : goal.reply-requires
+reply-requires c = read-line c.read_certificate.ensures
+
+pub returns : goal.returns
+returns c = read_returned c.read_certificate.ensures c.reply.ensures
