@@ -45,6 +45,7 @@ abbrev pub unless_left : Stream → Result ⊤ Stop
 unless_left (end size) = Ok tt
 unless_left (token place bytes s) = Err (record { reason = TokenLeft; place = place })
 
+-- the end of a text is due at the cursor
 abbrev pub end_of : Bytes → Cursor → Result ⊤ Stop
 end_of text c = unless_left (rest text c.at)
 
@@ -57,6 +58,7 @@ pub record Written (text : Bytes) (header : Header) (s : State) (index : List �
   pub values_is : values ≡ sets s.values 0 (by_turns (L.values certificate tree))
   pub rows_is : rows ≡ laid s.rows (marks certificate tree 0 0)
 
+-- by cases on the answer; a refused text has the refusal of its reading
 abbrev pub AnswersToEnd : Bytes → State → List ℕ → List ℤ → List ℕ → Result Header Stop → Type 0
 AnswersToEnd text s index values rows (Ok header) = Written text header s index values rows
 AnswersToEnd text s index values rows (Err stop) = read_of text ≡ refused (refusal_number stop.reason) stop.place

@@ -32,10 +32,11 @@ pub data Answer : Type 0 where
   takes : Header → Answer
   refuses : (reason line : ℕ) → Answer
 
--- what `read_certificate` answers; for each case of it, what 01 calls it
+-- what `read_certificate` answers
 abbrev pub Reading : Type 0
 Reading = Result Header Refused
 
+-- for each case of it, what 01 calls it
 abbrev pub reading_says : Reading → Answer
 reading_says (Ok header) = takes header
 reading_says (Err r) = refuses (refusal_number r.reason) r.line
