@@ -1,12 +1,9 @@
 -- A number as it is printed is the number in decimal.
 -- Assumes nothing.
-use Rattle.std.proofs.Common.{◌≡◌, sym, rules, ◌∙◌, ℕ, suc, ◌<◌, ◌≤◌, ◌^◌, ◌+◌, ◌%◌, ◌/◌, ◌∷◌, [], ◌++◌, arith, cond, Bool, true, false}
-use Rattle.std.proofs.lemmas.Grind.{common_steps}
+use Rattle.std.proofs.Common.{◌≡◌, sym, rules, ℕ, suc, ◌<◌, ◌^◌, arith}
 use Rattle.std.specs.Fmt.{decimal as shown}
 use Rattle.std.proofs.lemmas.Fmt.{AppendsLastDigit, decimal_from_appends, length-decimal-le_succ}
 use Rattle.std.proofs.lemmas.Bool.Decides.{nat_tests}
-use lib.Dec.{ltb}
-use Rattle.text.specs.Bytes.{Bytes}
 use Rattle.program.specs.Line.{decimal_by, decimal}
 
 by_digits : AppendsLastDigit decimal_by

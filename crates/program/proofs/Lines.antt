@@ -1,7 +1,6 @@
 -- The line that is printed for a text, and the bytes of a room that came.
 -- Assumes nothing.
 use mathlib.Core.Path.{◌≡◌, sym, ◌∙◌, ap}
-use mathlib.Core.List.{◌++◌}
 use Prim.Native.Nat.{ℕ, min}
 use native.Mathlib.Omega.{min_cases}
 use lib.ListN.{length, take}
