@@ -1,7 +1,7 @@
 // What the programs of cases share: the cases of an input, which are texts under names, and rows of cells.
 #![tactic(auto)]
 
-ghost use Rattle.std.specs.Prelude.{◌<◌, ◌≤◌, length, IfOk};
+ghost use Rattle.std.specs.Prelude.{◌+◌, ◌<◌, ◌≤◌, length, IfOk, IfSome};
 ghost use Rattle.std.specs.Iterator.{at_most};
 
 use std::fmt::Display;
@@ -32,7 +32,8 @@ pub struct Case<'a> {
 // What stands before the first mark and what stands after it, or all of a text and nothing.
 fn cut<'a, const N: usize>(text: &'a [u8], mark: &[u8; N]) -> (&'a [u8], &'a [u8])
     requires { 1 ≤ N }
-    ensures { 1 ≤ length text.now → length result.1.now < length text.now }
+    ensures shorter { 1 ≤ length text.now → length result.1.now < length text.now }
+    ensures parts { length result.0.now + length result.1.now ≤ length text.now }
 {
     match text.windows(N).position(|window| window == mark.as_slice()) {
         Some(at) => (&text[..at], &text[at + N..]),
@@ -47,7 +48,9 @@ pub struct Cases<'a> {
 }
 
 impl<'a> Cases<'a> {
-    pub fn new(input: &'a [u8]) -> Cases<'a> {
+    pub fn new(input: &'a [u8]) -> Cases<'a>
+        ensures { length result.rest.now ≤ length input.now }
+    {
         Cases {
             rest: input.strip_prefix(b"= ").unwrap_or(input),
         }
@@ -56,6 +59,8 @@ impl<'a> Cases<'a> {
 
 impl<'a> Iterator for Cases<'a> {
     type Item = Case<'a>;
+
+    ghost next_gives = { λ s r t. IfSome r (λ c. length c.name.now + length c.text.now ≤ length s.rest.now) };
 
     ghost remaining = { λ s. at_most (length s.rest.now) };
 
