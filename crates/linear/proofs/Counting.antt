@@ -8,6 +8,9 @@ use native.Mathlib.Numerals.{add-one}
 use native.Mathlib.Omega.{arith}
 use borrow.Author.Tests.{eqb-true, eqb-false, ne_eqb}
 use lib.Dec.{eqb}
+use Rattle.std.specs.Prelude.{count_by}
+use Rattle.std.specs.List.{range_with_len}
+use Rattle.std.proofs.lemmas.List.Sums.{sum_by-cons}
 use Rattle.rules.specs.Tests.{every_below}
 use Rattle.rules.proofs.Tests.{not-true}
 use Rattle.linear.specs.Comparing.{count_below}
@@ -104,3 +107,26 @@ module _ (test : ℕ → Bool) where
           let q = eqb-false v (suc n) e in
           more (omega (arith, q))
           ∙ sym (ap (λ (b : Bool). cond b (suc (count_below n test)) (count_below n test)) (h n (omega (arith, q)) (omega arith)))
+
+-- ---- a count over a range
+
+module _ (test : ℕ → Bool) where
+  count_from : (a n : ℕ) → count_by test (range_with_len a n) + count_below a test ≡ count_below (a + n) test
+  count_from a zero =
+      let none : 0 + count_below a test ≡ count_below a test = omega arith in
+      none ∙ (let e : a ≡ a + 0 = omega arith in ap (λ (k : ℕ). count_below k test) e)
+  count_from a (suc n) =
+      ap (λ (c : ℕ). c + count_below a test) (sum_by-cons (λ (v : ℕ). cond (test v) 1 0) a (range_with_len (a + 1) n))
+      ∙ one (test a) (count_by test (range_with_len (a + 1) n)) (count_below a test)
+      ∙ ap (λ (c : ℕ). count_by test (range_with_len (a + 1) n) + c) (sym (count_on test a))
+      ∙ count_from (a + 1) n
+      ∙ (let e : a + 1 + n ≡ a + suc n = omega arith in ap (λ (k : ℕ). count_below k test) e)
+    where
+      one : (t : Bool) (later before : ℕ) → cond t 1 0 + later + before ≡ later + cond t (suc before) before
+      one true later before = omega arith
+      one false later before = omega arith
+
+  pub count_range : (n : ℕ) → count_by test (range_with_len 0 n) ≡ count_below n test
+  count_range n =
+      let none : count_by test (range_with_len 0 n) ≡ count_by test (range_with_len 0 n) + 0 = omega arith in
+      none ∙ count_from 0 n ∙ (let e : 0 + n ≡ n = omega arith in ap (λ (k : ℕ). count_below k test) e)

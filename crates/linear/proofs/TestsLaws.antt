@@ -3,8 +3,17 @@
 use mathlib.Core.Path.{◌≡◌, sym, ◌∙◌, ap}
 use mathlib.Core.Bool.{Bool, true, false, ◌&&◌}
 use mathlib.Core.List.{List, [], ◌∷◌}
-use Prim.Native.Nat.{ℕ, ◌+◌, ◌<◌}
+use Prim.Native.Nat.{ℕ, zero, suc, ◌+◌, ◌<◌}
 use native.Mathlib.Numerals.{add-one}
+use native.Mathlib.Omega.{arith}
+use lib.IntN.{ℤ}
+use lib.ListN.{get_or}
+use Rattle.std.specs.List.{list_all, range_with_len}
+use Rattle.tables.specs.Cells.{fraction_at}
+use Rattle.tables.specs.Pairs.{pairs_in}
+use Rattle.grammar.specs.Tree.{Term}
+use Rattle.linear.specs.Lists.{a_term, terms_in}
+use Rattle.linear.specs.ListsLaws.{listed_from, listed_next, listed_none}
 use Rattle.rules.specs.Tests.{Decides, EveryBelow, all_of, every_below}
 use Rattle.rules.proofs.Tests.{fails, failed, decides_below}
 
@@ -21,6 +30,19 @@ module _ {A : Type 0} (test : A → Bool) {x : A} {left rest : List A} {target :
 
 pub tests_end : {A : Type 0} (test : A → Bool) {left : List A} {target : Bool} → all_of test left ≡ target → left ≡ [] → true ≡ target
 tests_end test g e = sym (ap (all_of test) e) ∙ g
+
+-- a test of each term, by its number
+module _ (variables : List ℕ) (parts : List ℤ) (test : Term → Bool) where
+  abbrev tested : ℕ → Bool
+  tested k = test (a_term (get_or variables k 0) (fraction_at parts k))
+
+  tests_from : (a n : ℕ) → a + n ≡ pairs_in variables parts → list_all tested (range_with_len a n) ≡ all_of test (listed_from a_term variables parts a)
+  tests_from a zero e = sym (ap (all_of test) (listed_none a_term variables parts a (omega arith)))
+  tests_from a (suc n) e =
+      ap (λ (b : Bool). tested a && b) (tests_from (a + 1) n (omega arith)) ∙ sym (ap (all_of test) (listed_next a_term variables parts a (omega arith)))
+
+  pub tests_of_all : list_all tested (range_with_len 0 (pairs_in variables parts)) ≡ all_of test (terms_in variables parts)
+  tests_of_all = tests_from 0 (pairs_in variables parts) (omega arith)
 
 -- ---- of every variable
 

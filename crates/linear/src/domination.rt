@@ -1,8 +1,11 @@
 // Domination: the coefficients of one constraint in an array, those of the other as listed terms.
-ghost use Rattle.std.specs.Prelude.{◌≡◌, ℕ};
+ghost use Rattle.std.specs.Prelude.{◌≡◌, ℕ, count_by};
+ghost use Rattle.std.specs.List.{range_with_len, list_all};
+ghost use Rattle.tables.specs.Cells.{fraction_at};
+ghost use Rattle.tables.specs.Pairs.{pairs_in};
 ghost use Rattle.arithmetic.specs.Fraction.{IsFraction, exact};
 ghost use Rattle.arithmetic.specs.declared.Fraction.{Fraction as Value};
-ghost use Rattle.rules.specs.Tests.{all_of, every_below};
+ghost use Rattle.rules.specs.Tests.{every_below};
 ghost use Rattle.rules.specs.Values.{is_zero, is_same};
 ghost use Rattle.rules.specs.Rows.{value_in};
 ghost use Rattle.rules.specs.Domination.{is_absurd, dominates as dominates_of};
@@ -10,7 +13,7 @@ ghost use Rattle.rules.specs.Sentence.Formed.{Formed};
 ghost use Rattle.senses.specs.Senses.{constraint_by};
 ghost use Rattle.linear.specs.Lists.{terms_of};
 ghost use Rattle.linear.specs.Coefficients.{coefficients_of, AreFractions};
-ghost use Rattle.linear.specs.Comparing.{nonzeros_below, Compares};
+ghost use Rattle.linear.specs.Comparing.{is_nonzero, nonzeros_below, Compares};
 
 use crate::coefficients::Coefficients;
 use crate::lists::Terms;
@@ -29,15 +32,9 @@ pub struct Compared {
 impl Coefficients {
     // How many of n are not zero.
     pub(crate) fn nonzeros(&self, n: usize) -> usize
-        ensures { result ≡ nonzeros_below n (coefficients_of self.now) }
+        ensures { result ≡ count_by (λ v. is_nonzero (coefficients_of self.now v)) (range_with_len 0 n) }
     {
-        let mut count = 0;
-        for v in 0..n {
-            if !values::is_zero(self.at(v)) {
-                count += 1;
-            }
-        }
-        count
+        (0..n).filter(|v| !values::is_zero(self.at(*v))).count()
     }
 
     // Whether listed terms give each variable the coefficient that it has here, where so many are not zero: each listed one is
@@ -82,14 +79,9 @@ impl Compared {
 impl<'a> Terms<'a> {
     // Whether all coefficients are zero.
     fn are_zero(self) -> bool
-        ensures { result ≡ all_of (λ t. is_zero (exact t.coefficient)) (terms_of self.entry) }
+        ensures { result ≡ list_all (λ k. is_zero (exact (fraction_at self.entry.parts.now k))) (range_with_len 0 (pairs_in self.entry.variables.now self.entry.parts.now)) }
     {
-        for k in 0..self.count() {
-            if !values::is_zero(self.term(k).1) {
-                return false;
-            }
-        }
-        true
+        (0..self.count()).all(|k| values::is_zero(self.term(k).1))
     }
 }
 
