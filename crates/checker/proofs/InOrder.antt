@@ -1,6 +1,6 @@
 -- How the refusals of the parts of checking make the refusal of the whole, in document 01's order.
 -- Assumes nothing.
-use Rattle.std.proofs.Common.{◌≡◌, refl, sym, ◌∙◌, ap, subst, Bool, true, false, List, ℕ, Option, Some, None, Result, Ok, Err}
+use Rattle.std.proofs.Common.{◌≡◌, sym, ◌∙◌, ap, subst, Bool, true, false, List, ℕ, Option, Some, None, Result, Ok, Err}
 use Rattle.std.specs.Prelude.{⊤, IfSome}
 use Rattle.std.specs.Result.{IsErrAnd}
 use Rattle.arithmetic.specs.Fraction.{IsFraction}
@@ -14,10 +14,8 @@ use Rattle.rules.specs.Check.{check_of}
 use Rattle.rules.specs.Sentence.Formed.{EndFormed}
 use Rattle.encoding.specs.Claims.{end_says}
 use Rattle.verdicts.specs.Verdicts.{verdict_says}
-use Rattle.solutions.specs.Objectives as solutions
 use Rattle.solutions.specs.Objectives.{Worked, ObjectivesSay}
 use Rattle.solutions.specs.declared.objectives.Best.{Best}
-use Rattle.derivations.specs.Checks as derivations
 use Rattle.checker.specs.Order.{proof_of, reaching_of}
 
 -- ---- the first refusal
@@ -35,16 +33,12 @@ stops y was up says = ap verdict_says up ∙ ap (λ (r : Verdict). r and_then y)
 pub goes_on : {v : Result ⊤ Stop} {u : ⊤} {x : Verdict} (y : Verdict) → v ≡ Ok u → verdict_says v ≡ x → x and_then y ≡ y
 goes_on y was says = ap (λ (r : Verdict). r and_then y) (sym says ∙ ap verdict_says was)
 
--- ---- what two crates say alike
+-- ---- the ends that are asked
 
 -- a finite end is a fraction
 pub finite-fraction : (o : Option Fraction) → EndFormed (end_says o) → IfSome o IsFraction
 finite-fraction None h = tt
 finite-fraction (Some f) h = h
-
-pub same_best : (o : Option Fraction) → derivations.best_says o ≡ solutions.best_says o
-same_best None = refl
-same_best (Some f) = refl
 
 module _ (tree : Tree) where
   abbrev solutions_part : Verdict

@@ -1,7 +1,6 @@
 -- What derived rows are checked by, the row that is checked, and the rows that its reason names.
 -- Assumes nothing.
-use Rattle.std.specs.Prelude.{◌≡◌, Option, Some, None, IfSome, List, map, ℕ, ◌≤◌, ◌<◌, get_or}
-use Rattle.std.proofs.Math.Option as maybe
+use Rattle.std.specs.Prelude.{◌≡◌, Option, IfSome, List, map, ℕ, ◌≤◌, ◌<◌, get_or}
 use Rattle.arithmetic.specs.Fraction.{IsFraction}
 use Rattle.arithmetic.specs.declared.Fraction.{Fraction}
 use Rattle.tables.specs.Limits.{most_variables}
@@ -16,12 +15,8 @@ use Rattle.encoding.specs.Encodes.{EncodesMultipliers, Holds}
 use Rattle.encoding.specs.Rows.{RowIs}
 use Rattle.encoding.specs.declared.Certificate.{Certificate}
 use Rattle.encoding.specs.declared.rows.ListedRow.{ListedRow}
+use Rattle.verdicts.specs.Best.{best_says}
 use Rattle.derivations.specs.declared.Checker.{Checker}
-
--- the best objective, if there is any
-abbrev pub best_says : Option Fraction → maybe.Option Fraction
-best_says None = maybe.none
-best_says (Some value) = maybe.some value
 
 -- it is the best of these objectives, and a fraction
 pub record BestIs (tree : Tree) (os : List Fraction) (best : Option Fraction) : Type 0 where

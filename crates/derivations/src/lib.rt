@@ -13,7 +13,8 @@ ghost use Rattle.rules.specs.Solutions.{best_of};
 ghost use Rattle.rules.specs.Derivations.{check_reason, check_derivation};
 ghost use Rattle.encoding.specs.Encodes.{EncodesDerivation, derivation_at, Holds};
 ghost use Rattle.verdicts.specs.Verdicts.{verdict_says};
-ghost use Rattle.derivations.specs.Checks.{best_says, BestIs, Checks, Lists};
+ghost use Rattle.verdicts.specs.Best.{best_says};
+ghost use Rattle.derivations.specs.Checks.{BestIs, Checks, Lists};
 
 use arithmetic::Fraction;
 use encoding::reasons::Word;

@@ -9,7 +9,8 @@ ghost use Rattle.rules.specs.Splits.{is_proper_split};
 ghost use Rattle.rules.specs.Derivations.{named, check_dominates, check_lin, check_rnd, check_uns, check_sol};
 ghost use Rattle.encoding.specs.Encodes.{Holds};
 ghost use Rattle.verdicts.specs.Verdicts.{verdict_says};
-ghost use Rattle.derivations.specs.Checks.{best_says, Checks, Lists, HasMultipliers, unsplit_of};
+ghost use Rattle.verdicts.specs.Best.{best_says};
+ghost use Rattle.derivations.specs.Checks.{Checks, Lists, HasMultipliers, unsplit_of};
 ghost use Rattle.derivations.specs.Constraints.{constraint_says, HaveFractions};
 
 use crate::combining::Multipliers;

@@ -10,7 +10,8 @@ use Rattle.rules.specs.Result.{Result, done, refused}
 use Rattle.rules.specs.Rows.{objective}
 use Rattle.rules.specs.Solutions.{left_side, holds, objectives_of, towards, best_from, best_of}
 use Rattle.encoding.specs.Encodes.{no_solution, solution_at}
-use Rattle.solutions.specs.Objectives.{best_says, BestIs, Worked}
+use Rattle.verdicts.specs.Best.{best_says}
+use Rattle.solutions.specs.Objectives.{BestIs, Worked}
 use Rattle.solutions.specs.declared.objectives.Best.{Best}
 use Rattle.solutions.proofs.Lists.{Collecting, collecting_is, collecting_on, collecting_end}
 

@@ -1,7 +1,6 @@
 -- What comes of the objectives of solutions, in the words of the rules.
 -- Assumes nothing.
-use Rattle.std.specs.Prelude.{◌≡◌, Option, Some, None, Result, Ok, Err, IfSome, List}
-use Rattle.std.proofs.Math.Option as maybe
+use Rattle.std.specs.Prelude.{◌≡◌, Result, Ok, Err, IfSome, List}
 use Rattle.arithmetic.specs.Fraction.{IsFraction}
 use Rattle.arithmetic.specs.declared.Fraction.{Fraction}
 use Rattle.grammar.specs.Refusals.{refusal_number}
@@ -9,13 +8,9 @@ use Rattle.grammar.specs.Tree.{Direction, End, Tree}
 use Rattle.grammar.specs.declared.Stop.{Stop}
 use Rattle.rules.specs.Result as result
 use Rattle.rules.specs.Solutions.{objectives_of, reached, best_of}
+use Rattle.verdicts.specs.Best.{best_says}
 use Rattle.solutions.specs.Points.{IsTooWide}
 use Rattle.solutions.specs.declared.objectives.Best.{Best}
-
--- the best objective, if there is any
-abbrev pub best_says : Option Fraction → maybe.Option Fraction
-best_says None = maybe.none
-best_says (Some best) = maybe.some best
 
 -- the best of these objectives, and whether they reach the end that is asked; it is a fraction
 pub record BestIs (direction : Direction) (end : End) (os : List Fraction) (b : Best) : Type 0 where

@@ -8,8 +8,9 @@ ghost use Rattle.rules.specs.Solutions.{towards, left_side, best_of};
 ghost use Rattle.senses.specs.Senses.{sense_is};
 ghost use Rattle.encoding.specs.Claims.{end_says};
 ghost use Rattle.encoding.specs.Encodes.{solution_at, Holds};
+ghost use Rattle.verdicts.specs.Best.{best_says};
 ghost use Rattle.solutions.specs.Points.{IsTooWide, left_says};
-ghost use Rattle.solutions.specs.Objectives.{best_says, BestIs, ObjectivesSay};
+ghost use Rattle.solutions.specs.Objectives.{BestIs, ObjectivesSay};
 
 use crate::points::Point;
 use arithmetic::Fraction;

@@ -5,7 +5,7 @@ use Rattle.arithmetic.specs.declared.Fraction.{Fraction}
 use Rattle.grammar.specs.Tree.{Tree}
 use Rattle.rules.specs.Solutions.{best_of}
 use Rattle.encoding.specs.Encodes.{Holds}
-use Rattle.derivations.specs.Checks.{best_says}
+use Rattle.verdicts.specs.Best.{best_says}
 use Rattle.derivations.proofs.ReasonsLaws.{Left}
 use Rattle.derivations.proofs.check_derivations.Given as goal
 

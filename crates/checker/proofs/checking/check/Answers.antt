@@ -10,7 +10,7 @@ use Rattle.encoding.specs.Claims.{end_says}
 use Rattle.verdicts.specs.Verdicts.{verdict_says}
 use Rattle.solutions.specs.Objectives.{ObjectivesSay, Worked}
 use Rattle.checker.specs.Order.{derivations_of, claim_of, proof_of}
-use Rattle.checker.proofs.InOrder.{handed_on, stops, goes_on, finite-fraction, same_best, from_objectives, solutions_refused, after_solutions, too_wide, found, not-reached, is_reached}
+use Rattle.checker.proofs.InOrder.{handed_on, stops, goes_on, finite-fraction, from_objectives, solutions_refused, after_solutions, too_wide, found, not-reached, is_reached}
 use Rattle.checker.proofs.checking.check.Goals as goal
 use Rattle.checker.proofs.checking.check.Goals.{After-objectives_of, In_ok-best, After-check_derivations}
 
@@ -35,7 +35,7 @@ derived : (c : After-check_derivations) (tree : Tree) (h : Holds tree c.args.cer
     → verdict_says c.check_derivations.result ≡ derivations_of tree (worked (goal.at.After-check_derivations c).In_ok-best tree h).values
 derived c tree h =
     let w = worked (goal.at.After-check_derivations c).In_ok-best tree h in
-    c.check_derivations.ensures tree w.values h (same_best _ ∙ w.best.best_is) w.best.fraction
+    c.check_derivations.ensures tree w.values h w.best.best_is w.best.fraction
 
 pub returns-in_err-check_solutions : goal.returns-in_err-check_solutions
 returns-in_err-check_solutions c = λ tree h. solutions_refused tree c.in_err-check_solutions.was (handed_on _ c.from_residual.ensures.1) (c.check_solutions.ensures tree h)

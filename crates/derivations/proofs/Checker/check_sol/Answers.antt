@@ -10,7 +10,7 @@ use Rattle.rules.specs.Sentence.Formed.{Formed}
 use Rattle.linear.specs.Lists.{terms_in}
 use Rattle.linear.specs.declared.rows.Row.{Row}
 use Rattle.encoding.proofs.EncodesLaws.{maximize_is}
-use Rattle.derivations.specs.Checks.{best_says}
+use Rattle.verdicts.specs.Best.{best_says}
 use Rattle.derivations.proofs.RowsLaws.{made_is, made_fractions}
 use Rattle.derivations.proofs.Checker.check_sol.Goals as goal
 
