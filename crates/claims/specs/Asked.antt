@@ -6,6 +6,7 @@ use Rattle.grammar.specs.Tree.{Direction, minimize, maximize, Sense, at_most, at
 use Rattle.rules.specs.Rows.{variables, Constraint, objective_with}
 use Rattle.rules.specs.Domination.{is_absurd, dominates}
 use Rattle.rules.specs.Claims as claims
+use Rattle.senses.specs.Senses.{sense_is}
 use Rattle.claims.specs.declared.proving.Asked.{Asked}
 use Rattle.claims.specs.declared.proving.Asked.TheVariants as ask
 
@@ -18,13 +19,13 @@ against maximize = at_most
 abbrev pub asked_says : Tree → Asked → claims.Asked
 asked_says tree ask.Nothing = claims.nothing
 asked_says tree ask.Absurdity = claims.absurdity
-asked_says tree (ask.Domination bound) = claims.domination (objective_with tree (against tree.objective.direction) bound)
+asked_says tree (ask.Domination bound) = claims.domination (objective_with tree (sense_is bound.sense) bound.right)
 
--- a bound is a fraction
+-- the right side of a bound is a fraction
 abbrev pub AskedFormed : Asked → Type 0
 AskedFormed ask.Nothing = Unit {0}
 AskedFormed ask.Absurdity = Unit {0}
-AskedFormed (ask.Domination bound) = IsFraction bound
+AskedFormed (ask.Domination bound) = IsFraction bound.right
 
 -- whether a constraint meets what is asked
 abbrev pub meets : Tree → claims.Asked → Constraint → Bool

@@ -13,18 +13,24 @@ ghost use Rattle.encoding.specs.Rows.{RowIs};
 ghost use Rattle.claims.specs.Asked.{against, asked_says, AskedFormed, meets as meets_of};
 
 use crate::{assumptions, last_derived};
-use arithmetic::Fraction;
 use encoding::Certificate;
 use encoding::rows::ListedRow;
 use linear::rows::Row;
-use senses::Sense;
+use senses::{Bound, Sense};
 
-// What the claim asks of the last row: nothing, to be absurd, or to dominate OBJ with a bound.
+// What the claim asks of the last row: nothing, to be absurd, or to dominate OBJ with this bound.
 #[derive(Clone, Copy)]
 pub(crate) enum Asked {
     Nothing,
     Absurdity,
-    Domination(Fraction),
+    Domination(Bound),
+}
+
+// The sense of the bound that a range asks to be proved: OBJ ≥ lb for min, OBJ ≤ ub for max.
+fn sense_asked(maximize: bool) -> Sense
+    ensures { (d : Direction) → maximize ≡ is_maximize d → sense_is result ≡ against d }
+{
+    senses::sense_towards(!maximize)
 }
 
 // What the claim asks of the last row.
@@ -35,28 +41,25 @@ fn asked_of(certificate: Certificate) -> Asked
     if certificate.is_infeas() {
         return Asked::Absurdity;
     }
-    match certificate.end(certificate.header.maximize) {
+    let maximize = certificate.header.maximize;
+    match certificate.end(maximize) {
         None => Asked::Nothing,
-        Some(bound) => Asked::Domination(bound),
+        Some(right) => Asked::Domination(Bound {
+            sense: sense_asked(maximize),
+            right,
+        }),
     }
 }
 
-// The sense of the bound that a range asks to be proved: OBJ ≥ lb for min, OBJ ≤ ub for max.
-fn sense_asked(maximize: bool) -> Sense
-    ensures { (d : Direction) → maximize ≡ is_maximize d → sense_is result ≡ against d }
-{
-    senses::sense_towards(!maximize)
-}
-
 // Whether a row dominates OBJ with this bound: the row's coefficients in an array, the objective's as listed terms.
-fn dominates_objective(certificate: Certificate, row: ListedRow, bound: Fraction) -> bool
-    ensures { (tree : Tree) (x : TreeRow) → Holds tree certificate.entry → RowIs tree certificate.entry.index.now certificate.entry.values.now x row → RowFormed tree x → IsFraction bound → result ≡ dominates (variables tree) (constraint_of tree x) (objective_with tree (against tree.objective.direction) bound) }
+fn dominates_objective(certificate: Certificate, row: ListedRow, bound: Bound) -> bool
+    ensures { (tree : Tree) (x : TreeRow) → Holds tree certificate.entry → RowIs tree certificate.entry.index.now certificate.entry.values.now x row → RowFormed tree x → IsFraction bound.right → result ≡ dominates (variables tree) (constraint_of tree x) (objective_with tree (sense_is bound.sense) bound.right) }
 {
     let header = certificate.header;
     let coefficients = certificate.terms(row.terms).coefficients();
     let objective = certificate.terms(header.objective);
     let compared = coefficients.compare(objective, header.variables);
-    compared.dominates(row.sense, row.right, sense_asked(header.maximize), bound)
+    compared.dominates(row.bound, bound)
 }
 
 // Whether a row is absurd.
@@ -65,8 +68,7 @@ fn is_absurd(certificate: Certificate, row: ListedRow) -> bool
 {
     let listed = Row {
         terms: certificate.terms(row.terms),
-        sense: row.sense,
-        right: row.right,
+        bound: row.bound,
     };
     listed.is_absurd()
 }

@@ -106,11 +106,11 @@ pub record Stepped (tree : Tree) (all left : List Multiplier) (d : code.Result C
 module _ {tree : Tree} (n : Certificate) (named : List ℕ) (factors : List ℤ) (below : MultipliersBelow n.header.rows (multipliers_in named factors)) {k : ℕ} (lt : k < pairs_in named factors) (few : n.header.variables ≤ most_variables) where
   pub stepped : {all : List Multiplier} {c : Combination} → Combining tree all (listed_from a_multiplier named factors k) c → {x : Row} → Stands tree n (row_at tree (get_or named k 0)) x
       → {factor : Fraction} → factor ≡ fraction_at factors k → (d : code.Result Combination ArithmeticError)
-      → (Takes c (terms_of x.terms) x.right factor → (place : ℕ) → combination_says place d ≡ next_combination place factor (terms_of x.terms) x.right (combination_of c))
-      → (Takes c (terms_of x.terms) x.right factor → IfOk d HasFractions) → Stepped tree all (listed_from a_multiplier named factors (k + 1)) d
+      → (Takes c (terms_of x.terms) x.bound.right factor → (place : ℕ) → combination_says place d ≡ next_combination place factor (terms_of x.terms) x.bound.right (combination_of c))
+      → (Takes c (terms_of x.terms) x.bound.right factor → IfOk d HasFractions) → Stepped tree all (listed_from a_multiplier named factors (k + 1)) d
   stepped {all} {c} g {x} s {factor} q d says fractions =
       let one = multiplier-below named factors n.header.rows below k lt in
-      let taken : Takes c (terms_of x.terms) x.right factor =
+      let taken : Takes c (terms_of x.terms) x.bound.right factor =
       record { so_far = g.fractions; terms-below = formed_below _ most_variables (terms_of x.terms) few s.formed; right_is = s.fraction; factor_is = subst IsFraction (sym q) one.1 } in
       record {
         fractions = fractions taken;

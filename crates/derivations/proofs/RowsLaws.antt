@@ -34,7 +34,7 @@ lists_row c e i lt k = record { is = k; formed = (e.row i lt).formed; number = s
 
 module _ {tree : Tree} {c : Certificate} {r : grammar.Row} {x : ListedRow} (l : Lists tree c r x) where
   -- with its terms as two parts of the tables
-  pub stands : (ts : Terms) → ts.variables.now ≡ indices_at c.index.now x.terms → ts.parts.now ≡ values_at c.values.now x.terms → Stands tree c r (record { terms = ts; sense = x.sense; right = x.right })
+  pub stands : (ts : Terms) → ts.variables.now ≡ indices_at c.index.now x.terms → ts.parts.now ≡ values_at c.values.now x.terms → Stands tree c r (record { terms = ts; bound = x.bound })
   unfolding constraint_of
   stands ts e f =
       let q = ap₂ terms_in e f ∙ l.is.terms_are in
@@ -46,13 +46,13 @@ module _ {tree : Tree} {c : Certificate} {r : grammar.Row} {x : ListedRow} (l : 
         fraction = subst IsFraction (sym l.is.right_is) l.formed.right_fraction;
       }
 
-  pub dominates-row : {y : Row} → Stands tree c r y → {b : Bool} (d : rows.Constraint) → b ≡ dominates c.header.variables d (constraint_by (value_in (terms_of y.terms)) y.sense y.right) → b ≡ dominates (variables tree) d (constraint_of tree r)
+  pub dominates-row : {y : Row} → Stands tree c r y → {b : Bool} (d : rows.Constraint) → b ≡ dominates c.header.variables d (constraint_by (value_in (terms_of y.terms)) y.bound) → b ≡ dominates (variables tree) d (constraint_of tree r)
   dominates-row s d q = q ∙ (λ i. dominates (sym l.number i) d (s.is i))
 
 -- a constraint of the code that was made of listed terms
-module _ {n : ℕ} (few : n ≤ most_variables) (x : Row) (formed : Formed n (terms_of x.terms)) (fraction : IsFraction x.right) (k : Constraint)
-    (e : TermsBelow most_variables (terms_of x.terms) → constraint_is k ≡ constraint_by (value_in (terms_of x.terms)) x.sense x.right) where
-  pub made_is : constraint_is k ≡ constraint_by (value_in (terms_of x.terms)) x.sense x.right
+module _ {n : ℕ} (few : n ≤ most_variables) (x : Row) (formed : Formed n (terms_of x.terms)) (fraction : IsFraction x.bound.right) (k : Constraint)
+    (e : TermsBelow most_variables (terms_of x.terms) → constraint_is k ≡ constraint_by (value_in (terms_of x.terms)) x.bound) where
+  pub made_is : constraint_is k ≡ constraint_by (value_in (terms_of x.terms)) x.bound
   made_is = e (formed_below n most_variables (terms_of x.terms) few formed)
 
   pub made_fractions : HaveFractions k

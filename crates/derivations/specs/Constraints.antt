@@ -17,21 +17,21 @@ use Rattle.linear.specs.declared.rows.Row.{Row}
 use Rattle.encoding.specs.declared.Certificate.{Certificate}
 use Rattle.derivations.specs.declared.constraints.Constraint.{Constraint}
 
--- listed terms with a sense and a right side are this row of a certificate
+-- listed terms with a bound are this row of a certificate
 pub record Stands (tree : Tree) (c : Certificate) (r : grammar.Row) (x : Row) : Type 0 where
-  pub is : constraint_by (value_in (terms_of x.terms)) x.sense x.right ≡ constraint_of tree r
+  pub is : constraint_by (value_in (terms_of x.terms)) x.bound ≡ constraint_of tree r
   pub terms_are : terms_of x.terms ≡ rows.terms_of tree r
-  pub right_is : x.right ≡ r.right
+  pub right_is : x.bound.right ≡ r.right
   pub formed : Formed c.header.variables (terms_of x.terms)
-  pub fraction : IsFraction x.right
+  pub fraction : IsFraction x.bound.right
 
 abbrev pub constraint_is : Constraint → rows.Constraint
-constraint_is c = constraint_by (coefficients_of c.coefficients) c.sense c.right
+constraint_is c = constraint_by (coefficients_of c.coefficients) c.bound
 
 -- its coefficients and its right side are fractions
 pub record HaveFractions (c : Constraint) : Type 0 where
   pub coefficients : AreFractions (coefficients_of c.coefficients)
-  pub right : IsFraction c.right
+  pub right : IsFraction c.bound.right
 
 -- a constraint, or the reason and the place of the first refusal
 abbrev pub constraint_says : Result Constraint Stop → result.Result rows.Constraint

@@ -63,7 +63,7 @@ impl<'a> Multipliers<'a> {
         for k in 0..self.count() {
             let row = constraints::row_of(certificate, certificate.row(self.rows[k] as usize));
             let factor = tables::value_at(self.factors, k);
-            made = made.next(row.terms, row.right, factor)?;
+            made = made.next(row.terms, row.bound.right, factor)?;
         }
         Ok(made)
     }

@@ -10,13 +10,12 @@ ghost use Rattle.verdicts.specs.Verdicts.{verdict_says};
 ghost use Rattle.derivations.specs.Checks.{Lists};
 ghost use Rattle.derivations.specs.Constraints.{constraint_is, HaveFractions, Stands};
 
-use arithmetic::Fraction;
 use encoding::Certificate;
 use encoding::rows::ListedRow;
 use grammar::Refusal;
 use linear::coefficients::Coefficients;
 use linear::rows::Row;
-use senses::Sense;
+use senses::Bound;
 use verdicts::Verdict;
 
 // A row with its terms.
@@ -25,28 +24,25 @@ pub(crate) fn row_of<'a>(certificate: Certificate<'a>, row: ListedRow) -> Row<'a
 {
     Row {
         terms: certificate.terms(row.terms),
-        sense: row.sense,
-        right: row.right,
+        bound: row.bound,
     }
 }
 
-// A constraint: the coefficient of each variable, the sense, and the right side.
+// A constraint: the coefficient of each variable, and the bound of the left side.
 #[derive(Clone, Copy)]
 pub(crate) struct Constraint {
     pub coefficients: Coefficients,
-    pub sense: Sense,
-    pub right: Fraction,
+    pub bound: Bound,
 }
 
 impl Constraint {
     // The constraint that a row is.
     pub fn of_row(row: Row) -> Constraint
-        ensures { TermsBelow most_variables (terms_of row.entry.terms) → constraint_is result ≡ constraint_by (value_in (terms_of row.entry.terms)) row.entry.sense row.entry.right }
+        ensures { TermsBelow most_variables (terms_of row.entry.terms) → constraint_is result ≡ constraint_by (value_in (terms_of row.entry.terms)) row.entry.bound }
     {
         Constraint {
             coefficients: row.terms.coefficients(),
-            sense: row.sense,
-            right: row.right,
+            bound: row.bound,
         }
     }
 
@@ -57,7 +53,7 @@ impl Constraint {
         let listed = row_of(certificate, row);
         let n = certificate.header.variables;
         let compared = self.coefficients.compare(listed.terms, n);
-        let dominates = compared.dominates(self.sense, self.right, listed.sense, listed.right);
+        let dominates = compared.dominates(self.bound, listed.bound);
         crate::require(dominates, Refusal::NoDomination, row.place)
     }
 }

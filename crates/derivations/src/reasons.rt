@@ -20,7 +20,7 @@ use encoding::Certificate;
 use encoding::rows::ListedRow;
 use grammar::{Refusal, Stop};
 use linear::rows::Row;
-use senses::right_sides;
+use senses::Bound;
 use verdicts::Verdict;
 
 // ---- **lin** and **rnd**
@@ -46,8 +46,10 @@ fn suitable_combination(
     };
     Ok(Constraint {
         coefficients: made.coefficients,
-        sense: signs.sense(),
-        right: made.right,
+        bound: Bound {
+            sense: signs.sense(),
+            right: made.right,
+        },
     })
 }
 
@@ -77,10 +79,10 @@ impl<'a> Checker<'a> {
         let made = suitable_combination(self.certificate, own, row.place)?;
         let n = self.certificate.header.variables;
         let integral = made.coefficients.is_integral(&self.integers, n);
-        let rounds = right_sides::can_be_rounded(made.sense, integral);
+        let rounds = made.bound.can_be_rounded(integral);
         require(rounds, Refusal::CannotBeRounded, row.place)?;
-        let right = right_sides::rounded_right(made.sense, made.right);
-        Constraint { right, ..made }.check_dominates(self.certificate, row)
+        let bound = made.bound.rounded();
+        Constraint { bound, ..made }.check_dominates(self.certificate, row)
     }
 
     // Whether rows l1 and l2 are a proper split.
@@ -120,8 +122,10 @@ impl<'a> Checker<'a> {
         let header = self.certificate.header;
         let by = Row {
             terms: self.certificate.terms(header.objective),
-            sense: senses::sense_towards(header.maximize),
-            right: best,
+            bound: Bound {
+                sense: senses::sense_towards(header.maximize),
+                right: best,
+            },
         };
         Constraint::of_row(by).check_dominates(self.certificate, row)
     }

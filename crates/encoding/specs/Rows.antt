@@ -17,8 +17,8 @@ use Rattle.encoding.specs.declared.reasons.Word.TheVariants.{Asm, Lin, Rnd, Uns,
 -- a row with its terms where they stand in these tables
 pub record RowIs (tree : Tree) (index : List ℕ) (values : List ℤ) (row : Row) (x : ListedRow) : Type 0 where
   pub place_is : x.place ≡ row.name.place
-  pub sense_is_lem : sense_is x.sense ≡ row.sense
-  pub right_is : x.right ≡ row.right
+  pub sense_is_lem : sense_is x.bound.sense ≡ row.sense
+  pub right_is : x.bound.right ≡ row.right
   pub terms_are : terms_at index values x.terms ≡ terms_of tree row
 
 -- the cell of a reason's word: that of its row, its own two cells and those of its terms

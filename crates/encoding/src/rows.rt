@@ -10,17 +10,15 @@ ghost use Rattle.encoding.specs.Rows.{RowIs};
 
 use crate::Certificate;
 use crate::reasons::own_terms;
-use arithmetic::Fraction;
 use linear::lists::Terms;
-use senses::Sense;
+use senses::{Bound, Sense};
 use tables::{Pairs, words};
 
-// A row: the place of its name, its sense, its right side, and where its terms stand, which may be the objective's.
+// A row: the place of its name, the bound of its left side, and where its terms stand, which may be the objective's.
 #[derive(Clone, Copy)]
 pub struct ListedRow {
     pub place: usize,
-    pub sense: Sense,
-    pub right: Fraction,
+    pub bound: Bound,
     pub terms: Pairs,
 }
 
@@ -67,8 +65,10 @@ impl<'a> Certificate<'a> {
         let entry = tables::entry_at(self.rows, r);
         ListedRow {
             place: entry.place,
-            sense: sense_of(tables::cell_at(self.index, entry.cell)),
-            right: tables::value_at(self.values, entry.number),
+            bound: Bound {
+                sense: sense_of(tables::cell_at(self.index, entry.cell)),
+                right: tables::value_at(self.values, entry.number),
+            },
             terms: self.side(entry.cell, entry.number),
         }
     }

@@ -18,8 +18,7 @@ ghost use Rattle.linear.specs.Comparing.{is_nonzero, nonzeros_below, Compares};
 use crate::coefficients::Coefficients;
 use crate::lists::Terms;
 use crate::rows::Row;
-use arithmetic::Fraction;
-use senses::{Sense, values};
+use senses::{Bound, values};
 
 // What is told of coefficients that are held against the listed terms of a row: whether they are equal to the row's, and whether
 // all are zero.
@@ -68,11 +67,11 @@ impl Coefficients {
 }
 
 impl Compared {
-    // Whether the constraint of these coefficients, with sense s and right side a, dominates the row, with sense t and right side b.
-    pub fn dominates(self, s: Sense, a: Fraction, t: Sense, b: Fraction) -> bool
-        ensures { (n : ℕ) (coefficient row : ℕ → Value) → Compares n coefficient row self → IsFraction a → IsFraction b → result ≡ dominates_of n (constraint_by coefficient s a) (constraint_by row t b) }
+    // Whether the constraint of these coefficients, with this bound, dominates the row, with the other.
+    pub fn dominates(self, bound: Bound, other: Bound) -> bool
+        ensures { (n : ℕ) (coefficient row : ℕ → Value) → Compares n coefficient row self → IsFraction bound.right → IsFraction other.right → result ≡ dominates_of n (constraint_by coefficient bound) (constraint_by row other) }
     {
-        self.zero && senses::fails_at_zero(s, a) || self.same && senses::is_tighter(s, a, t, b)
+        self.zero && bound.fails_at_zero() || self.same && bound.is_tighter(other)
     }
 }
 
@@ -88,8 +87,8 @@ impl<'a> Terms<'a> {
 impl<'a> Row<'a> {
     // "0 ≥ β with β > 0, 0 ≤ β with β < 0, or 0 = β with β ≠ 0".
     pub fn is_absurd(self) -> bool
-        ensures { (n : ℕ) → Formed n (terms_of self.entry.terms) → result ≡ is_absurd n (constraint_by (value_in (terms_of self.entry.terms)) self.entry.sense self.entry.right) }
+        ensures { (n : ℕ) → Formed n (terms_of self.entry.terms) → result ≡ is_absurd n (constraint_by (value_in (terms_of self.entry.terms)) self.entry.bound) }
     {
-        senses::fails_at_zero(self.sense, self.right) && self.terms.are_zero()
+        self.bound.fails_at_zero() && self.terms.are_zero()
     }
 }

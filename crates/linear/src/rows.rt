@@ -1,12 +1,10 @@
 // Rows of listed terms.
 use crate::lists::Terms;
-use arithmetic::Fraction;
-use senses::Sense;
+use senses::Bound;
 
-// Terms with a sense and a right side.
+// Terms, and the bound of their left side.
 #[derive(Clone, Copy)]
 pub struct Row<'a> {
     pub terms: Terms<'a>,
-    pub sense: Sense,
-    pub right: Fraction,
+    pub bound: Bound,
 }

@@ -10,26 +10,18 @@ ghost use Rattle.linear.specs.Lists.{terms_of};
 ghost use Rattle.linear.specs.Coefficients.{VariablesAre};
 
 use crate::rows::Row;
-use senses::right_sides;
 
 impl<'a> Row<'a> {
-    // Whether the right sides are those of a split, this row's the lower one.
-    fn is_below(self, other: Row) -> bool
-        ensures { result ≡ are_adjacent (constraint_by (value_in (terms_of self.entry.terms)) self.entry.sense self.entry.right) (constraint_by (value_in (terms_of other.entry.terms)) other.entry.sense other.entry.right) }
-    {
-        right_sides::are_adjacent(self.sense, self.right, other.sense, other.right)
-    }
-
-    // The same, whichever of the two is the lower one.
+    // Whether the bounds are those of a split, whichever of the two is the lower one.
     fn is_adjacent(self, other: Row) -> bool
-        ensures { let lower = constraint_by (value_in (terms_of self.entry.terms)) self.entry.sense self.entry.right in let upper = constraint_by (value_in (terms_of other.entry.terms)) other.entry.sense other.entry.right in result ≡ are_adjacent lower upper || are_adjacent upper lower }
+        ensures { let lower = constraint_by (value_in (terms_of self.entry.terms)) self.entry.bound in let upper = constraint_by (value_in (terms_of other.entry.terms)) other.entry.bound in result ≡ are_adjacent lower upper || are_adjacent upper lower }
     {
-        self.is_below(other) || other.is_below(self)
+        self.bound.is_below(other.bound) || other.bound.is_below(self.bound)
     }
 
     // Whether this row and the other are a split: of every tree that has n variables and these integer ones.
     pub fn is_split(self, other: Row, integers: &[bool; 256], n: usize) -> bool
-        ensures { (tree : Tree) → VariablesAre tree n integers.now → n ≤ most_variables → Formed n (terms_of self.entry.terms) → Formed n (terms_of other.entry.terms) → result ≡ is_split tree (constraint_by (value_in (terms_of self.entry.terms)) self.entry.sense self.entry.right) (constraint_by (value_in (terms_of other.entry.terms)) other.entry.sense other.entry.right) }
+        ensures { (tree : Tree) → VariablesAre tree n integers.now → n ≤ most_variables → Formed n (terms_of self.entry.terms) → Formed n (terms_of other.entry.terms) → result ≡ is_split tree (constraint_by (value_in (terms_of self.entry.terms)) self.entry.bound) (constraint_by (value_in (terms_of other.entry.terms)) other.entry.bound) }
     {
         self.is_adjacent(other)
             && self.terms.are_integral(integers)

@@ -1,12 +1,12 @@
-// Senses, and the tests of single values and right sides under them. Nothing here knows a list or an array, and no public
-// function asks anything of its caller: what holds of fractions is said of these.
+// Senses, the bounds that they make with right sides, and the tests of single values and of bounds. Nothing here knows a list or
+// an array, and no public function asks anything of its caller: what holds of fractions is said of these.
 #![tactic(auto)]
 
 ghost use Rattle.std.specs.Prelude.{◌≡◌};
 ghost use Rattle.arithmetic.specs.Fraction.{IsFraction};
 ghost use Rattle.grammar.specs.Header.{is_maximize};
 ghost use Rattle.grammar.specs.Tree.{Direction};
-ghost use Rattle.rules.specs.Solutions.{holds as holds_of, towards};
+ghost use Rattle.rules.specs.Solutions.{holds, towards};
 ghost use Rattle.rules.specs.Domination.{fails_at_zero, is_tighter};
 ghost use Rattle.senses.specs.Senses.{sense_is};
 
@@ -35,31 +35,40 @@ pub fn sense_towards(maximize: bool) -> Sense
     }
 }
 
-// Whether a sense holds of a left side and a right side.
-pub fn holds(sense: Sense, left: Fraction, right: Fraction) -> bool
-    ensures { IsFraction left → IsFraction right → result ≡ holds_of (sense_is sense) left right }
-{
-    match sense {
-        Sense::Equal => values::is_same(left, right),
-        Sense::AtMost => values::is_at_most(left, right),
-        Sense::AtLeast => values::is_at_most(right, left),
-    }
+// A sense, and a right side under it: the bound of a left side.
+#[derive(Clone, Copy, Debug, PartialEq, Eq)]
+pub struct Bound {
+    pub sense: Sense,
+    pub right: Fraction,
 }
 
-// Whether the sense fails of 0 and a right side.
-pub fn fails_at_zero(sense: Sense, right: Fraction) -> bool
-    ensures { result ≡ fails_at_zero (sense_is sense) right }
-{
-    match sense {
-        Sense::Equal => right.num != 0,
-        Sense::AtMost => right.num < 0,
-        Sense::AtLeast => right.num > 0,
+impl Bound {
+    // Whether it holds of a left side.
+    pub fn holds_of(self, left: Fraction) -> bool
+        ensures { IsFraction left → IsFraction self.right → result ≡ holds (sense_is self.sense) left self.right }
+    {
+        match self.sense {
+            Sense::Equal => values::is_same(left, self.right),
+            Sense::AtMost => values::is_at_most(left, self.right),
+            Sense::AtLeast => values::is_at_most(self.right, left),
+        }
     }
-}
 
-// Whether sense s with right side a is as tight as sense t with right side b, where the coefficients are equal.
-pub fn is_tighter(s: Sense, a: Fraction, t: Sense, b: Fraction) -> bool
-    ensures { IsFraction a → IsFraction b → result ≡ is_tighter (sense_is s) a (sense_is t) b }
-{
-    (s == Sense::Equal || s == t) && holds(t, a, b)
+    // Whether it fails of 0.
+    pub fn fails_at_zero(self) -> bool
+        ensures { result ≡ fails_at_zero (sense_is self.sense) self.right }
+    {
+        match self.sense {
+            Sense::Equal => self.right.num != 0,
+            Sense::AtMost => self.right.num < 0,
+            Sense::AtLeast => self.right.num > 0,
+        }
+    }
+
+    // Whether it is as tight as another, where the coefficients are equal.
+    pub fn is_tighter(self, other: Bound) -> bool
+        ensures { IsFraction self.right → IsFraction other.right → result ≡ is_tighter (sense_is self.sense) self.right (sense_is other.sense) other.right }
+    {
+        (self.sense == Sense::Equal || self.sense == other.sense) && other.holds_of(self.right)
+    }
 }

@@ -39,7 +39,7 @@ module _ (tree : Tree) (s : Solution) (row : Row) where
 
     -- and by whether its sense holds there
     pub row_tested : {index : List ℕ} {values : List ℤ} {x : ListedRow} {left : Fraction} {answers test : Bool} {place : ℕ} → RowIs tree index values row x → IsFraction row.right
-        → answer ≡ Ok left → (IsFraction left → IsFraction x.right → answers ≡ holds (sense_is x.sense) left x.right) → answers ≡ test → place ≡ s.name.place
+        → answer ≡ Ok left → (IsFraction left → IsFraction x.bound.right → answers ≡ holds (sense_is x.bound.sense) left x.bound.right) → answers ≡ test → place ≡ s.name.place
         → require test 9 place ≡ check_row tree s row
     row_tested {left = left} r f v h t at =
         ap₂ (λ (b : Bool) (n : ℕ). require b 9 n)

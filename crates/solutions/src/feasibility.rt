@@ -24,7 +24,7 @@ impl Point {
     {
         let row = certificate.row(r);
         let left = self.left_at(certificate, row.terms)?;
-        if senses::holds(row.sense, left, row.right) {
+        if row.bound.holds_of(left) {
             Ok(())
         } else {
             Err(self.stop(Refusal::SolutionFails))

@@ -16,7 +16,7 @@ use crate::points::Point;
 use arithmetic::Fraction;
 use encoding::Certificate;
 use grammar::Stop;
-use senses::Sense;
+use senses::{Bound, Sense};
 
 // The best objective, if there is any, and whether what is asked is reached: nothing is asked, or one of them reaches the bound.
 #[derive(Clone, Copy, Debug, PartialEq, Eq)]
@@ -29,8 +29,9 @@ pub struct Best {
 fn better(sense: Sense, best: Option<Fraction>, o: Fraction) -> Fraction
     ensures { (d : Direction) (os : List FractionOf) → sense_is sense ≡ towards d → best_says best ≡ best_of d os → IfSome best IsFraction → IsFraction o → (best_says (Some result) ≡ best_of d (os ++ (o ∷ []))) × IsFraction result }
 {
+    let as_good = Bound { sense, right: o };
     match best {
-        Some(best) if senses::holds(sense, best, o) => best,
+        Some(best) if as_good.holds_of(best) => best,
         _ => o,
     }
 }
@@ -40,7 +41,7 @@ impl Best {
     fn with(self, sense: Sense, to_reach: Option<Fraction>, o: Fraction) -> Best
         ensures { (d : Direction) (os : List FractionOf) → sense_is sense ≡ towards d → IfSome to_reach IsFraction → IsFraction o → BestIs d (end_says to_reach) os self → BestIs d (end_says to_reach) (os ++ (o ∷ [])) result }
     {
-        let reaches = to_reach.is_none_or(|bound| senses::holds(sense, o, bound));
+        let reaches = to_reach.is_none_or(|right| Bound { sense, right }.holds_of(o));
         Best {
             value: Some(better(sense, self.value, o)),
             reached: self.reached || reaches,

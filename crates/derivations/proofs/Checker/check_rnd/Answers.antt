@@ -1,11 +1,11 @@
 -- `derivations::Checker::check_rnd` meets its contract: the suitable combination, whether it can be rounded, and what it then dominates.
 use Rattle.std.proofs.Common.{ℕ, refl, ◌∙◌, ap}
-use Rattle.arithmetic.specs.declared.Fraction.{Fraction}
 use Rattle.rules.specs.Result.{Result, bind, ◌and_then◌, require}
 use Rattle.rules.specs.Rows.{Constraint}
 use Rattle.rules.specs.Combinations.{suitable_combination}
 use Rattle.rules.specs.Rounding.{can_be_rounded, rounded}
 use Rattle.rules.specs.Derivations.{check_dominates, check_rnd}
+use Rattle.senses.specs.Senses.{sense_is}
 use Rattle.verdicts.specs.Verdicts.{verdict_says}
 use Rattle.derivations.specs.Constraints.{constraint_is}
 use Rattle.derivations.proofs.Refusals.{handed_up, require_is, then_on}
@@ -36,9 +36,9 @@ returns c =
     λ tree r ms h l m.
     let made : Constraint = constraint_is c.in_ok-made.made in
     let fs = c.in_ok-made.ensures.fractions tree ms h.encodes m in
-    let e = c.rounded_right-right.ensures fs.right in
+    let e = c.rounded-bound.ensures.right fs.right in
     c.check_dominates.ensures tree r l (record { coefficients = fs.coefficients; right = e.1 })
-    ∙ ap (λ (right : Fraction). check_dominates tree (record made { right = right }) r) e.0
+    ∙ (λ i. check_dominates tree (record made { sense = sense_is (c.rounded-bound.ensures.sense i); right = e.0 i }) r)
     ∙ then_on (check_dominates tree (rounded made) r)
     (c.in_ok-require.ensures ∙ require_is 14 (c.can_be_rounded-rounds.ensures tree made refl (c.is_integral-integral.ensures tree h.integers_are made refl)) l.is.place_is)
     ∙ ap (λ (u : Result Constraint). bind u (λ d. require (can_be_rounded tree d) 14 r.name.place and_then check_dominates tree (rounded d) r))

@@ -23,7 +23,7 @@ returns c =
     let n = c.args.self.now.certificate.header.variables in
     let formed = subst (Formed n) (sym q) (subst (λ (k : ℕ). Formed k (objective tree)) l.number e.formed.objective_formed) in
     let fraction = MatchOption-at_some _ IsFraction _ c.in-Some.is f in
-    let by : Row = record { terms = c.terms.result; sense = c.sense_towards.result; right = c.in-Some.best } in
+    let by : Row = record { terms = c.terms.result; bound = record { sense = c.sense_towards.result; right = c.in-Some.best } } in
     c.check_dominates.ensures tree r l (made_fractions l.few by formed fraction _ c.of_row.ensures)
     ∙ ap (λ (d : Constraint). check_dominates tree d r) (made_is l.few by formed fraction _ c.of_row.ensures)
     ∙ (λ i. check_dominates tree (record { sense = s i; coefficient = value_in (q i); right = c.in-Some.best }) r)

@@ -11,7 +11,7 @@ unfolding dominates is_absurd
 returns-then-fails_at_zero c =
     λ n coefficient row h v w.
     let a = c.args in
-    let absurd_is : c.if-self.value ≡ is_absurd n (constraint_by coefficient a.s a.a) = elim c.if-self.branch [
+    let absurd_is : c.if-self.value ≡ is_absurd n (constraint_by coefficient a.bound) = elim c.if-self.branch [
       | then-self w ↦ w.value-is ∙ w.fails_at_zero.ensures ∙ and_yes _ h.zero w.if-self.true
       | else-self w ↦ w.value-is ∙ w.if-self.false ∙ and_no _ h.zero w.if-self.false
     ] in
@@ -22,7 +22,7 @@ unfolding dominates is_absurd same_coefficients
 returns-then-self-2 c =
     λ n coefficient row h v w.
     let a = c.args in
-    let absurd_is : c.if-self.value ≡ is_absurd n (constraint_by coefficient a.s a.a) = elim c.if-self.branch [
+    let absurd_is : c.if-self.value ≡ is_absurd n (constraint_by coefficient a.bound) = elim c.if-self.branch [
       | then-self w ↦ w.value-is ∙ w.fails_at_zero.ensures ∙ and_yes _ h.zero w.if-self.true
       | else-self w ↦ w.value-is ∙ w.if-self.false ∙ and_no _ h.zero w.if-self.false
     ] in
@@ -33,7 +33,7 @@ unfolding dominates is_absurd same_coefficients
 returns-else-self-2 c =
     λ n coefficient row h v w.
     let a = c.args in
-    let absurd_is : c.if-self.value ≡ is_absurd n (constraint_by coefficient a.s a.a) = elim c.if-self.branch [
+    let absurd_is : c.if-self.value ≡ is_absurd n (constraint_by coefficient a.bound) = elim c.if-self.branch [
       | then-self w ↦ w.value-is ∙ w.fails_at_zero.ensures ∙ and_yes _ h.zero w.if-self.true
       | else-self w ↦ w.value-is ∙ w.if-self.false ∙ and_no _ h.zero w.if-self.false
     ] in

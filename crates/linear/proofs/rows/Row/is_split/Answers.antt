@@ -16,8 +16,8 @@ returns-then-are_integral c =
     λ tree are few formed formed2.
     let s = c.args.self in
     let o = c.args.other in
-    let r = constraint_by (value_in (terms_of s.terms)) s.sense s.right in
-    let r2 = constraint_by (value_in (terms_of o.terms)) o.sense o.right in
+    let r = constraint_by (value_in (terms_of s.terms)) s.bound in
+    let r2 = constraint_by (value_in (terms_of o.terms)) o.bound in
     let below = formed_below _ 256 _ few formed in
     let e = c.coefficients.ensures below in
     let rest : same_coefficients (variables tree) r r2 ≡ is_split tree r r2 = elim c.if-is_adjacent.branch [
@@ -33,8 +33,8 @@ returns-else-are_integral c =
     λ tree are few formed formed2.
     let s = c.args.self in
     let o = c.args.other in
-    let r = constraint_by (value_in (terms_of s.terms)) s.sense s.right in
-    let r2 = constraint_by (value_in (terms_of o.terms)) o.sense o.right in
+    let r = constraint_by (value_in (terms_of s.terms)) s.bound in
+    let r2 = constraint_by (value_in (terms_of o.terms)) o.bound in
     elim c.if-is_adjacent.branch [
       | then-is_adjacent w ↦ c.if-are_integral.false ∙ not_integral tree r r2 (w.are_integral.ensures tree _ are formed r refl) (sym w.value-is ∙ c.if-are_integral.false)
       | else-is_adjacent w ↦ c.if-are_integral.false ∙ not-adjacent tree r r2 c.is_adjacent.ensures w.if-is_adjacent.false

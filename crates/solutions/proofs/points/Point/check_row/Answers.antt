@@ -13,16 +13,16 @@ returns-in_err-left c =
     let r = c.row-row.ensures tree row e in
     ap verdict_says f ∙ row-refused tree s row (c.left_at.ensures.says _ s _ few p r.terms_are e.formed.terms_formed) c.in_err-left.was
 
-pub returns-then-holds : goal.returns-then-holds
-returns-then-holds c =
+pub returns-then-holds_of : goal.returns-then-holds_of
+returns-then-holds_of c =
     λ tree s row few p e.
     let r = c.row-row.ensures tree row e in
-    row_tested tree s row (c.left_at.ensures.says _ s _ few p r.terms_are e.formed.terms_formed) r e.formed.right_fraction c.in_ok-left.was c.holds.ensures c.if-holds.true p.place_is
+    row_tested tree s row (c.left_at.ensures.says _ s _ few p r.terms_are e.formed.terms_formed) r e.formed.right_fraction c.in_ok-left.was c.holds_of.ensures c.if-holds_of.true p.place_is
 
-pub returns-else-holds : goal.returns-else-holds
-returns-else-holds c =
+pub returns-else-holds_of : goal.returns-else-holds_of
+returns-else-holds_of c =
     λ tree s row few p e.
     let r = c.row-row.ensures tree row e in
     let stopped : verdict_says (Err c.stop.result) ≡ refused 9 c.args.self.now.place = search rules in
     stopped
-    ∙ row_tested tree s row (c.left_at.ensures.says _ s _ few p r.terms_are e.formed.terms_formed) r e.formed.right_fraction c.in_ok-left.was c.holds.ensures c.if-holds.false p.place_is
+    ∙ row_tested tree s row (c.left_at.ensures.says _ s _ few p r.terms_are e.formed.terms_formed) r e.formed.right_fraction c.in_ok-left.was c.holds_of.ensures c.if-holds_of.false p.place_is
