@@ -3,13 +3,13 @@
 // encode one.
 #![tactic(auto)]
 
-ghost use Rattle.std.specs.Prelude.{◌≡◌, ◌+◌, ◌≤◌, MatchOption};
+ghost use Rattle.std.specs.Prelude.{◌≡◌, List, ℕ, ◌+◌, ◌≤◌, MatchOption};
 ghost use Rattle.grammar.specs.Tree.{Tree};
 ghost use Rattle.rules.specs.Result.{require};
 ghost use Rattle.rules.specs.Solutions.{end_to_reach};
 ghost use Rattle.rules.specs.Claims.{last_row, is_proved, last_place};
 ghost use Rattle.rules.specs.Sentence.Formed.{EndFormed};
-ghost use Rattle.encoding.specs.Encodes.{Holds};
+ghost use Rattle.encoding.specs.Encodes.{Encodes, Holds};
 ghost use Rattle.encoding.specs.Claims.{end_says};
 ghost use Rattle.verdicts.specs.Verdicts.{verdict_says};
 
@@ -24,8 +24,8 @@ mod proving;
 
 // The end that solutions are asked to reach, if it is finite: ub for min, lb for max, none of `infeas`.
 pub fn end_to_reach(certificate: Certificate) -> Option<Fraction>
-    ensures says { (tree : Tree) → Holds tree certificate.entry → end_says result ≡ end_to_reach tree.objective.direction tree.relation.claim }
-    ensures formed { (tree : Tree) → Holds tree certificate.entry → EndFormed (end_says result) }
+    ensures says { (tree : Tree) (rows : List ℕ) → Encodes tree certificate.entry.header certificate.entry.index.now certificate.entry.values.now rows → end_says result ≡ end_to_reach tree.objective.direction tree.relation.claim }
+    ensures formed { (tree : Tree) (rows : List ℕ) → Encodes tree certificate.entry.header certificate.entry.index.now certificate.entry.values.now rows → EndFormed (end_says result) }
 {
     certificate.end(!certificate.header.maximize)
 }

@@ -1,11 +1,12 @@
 // Rows, given and derived, and solutions.
-ghost use Rattle.std.specs.Prelude.{◌≡◌, ◌≤◌};
+ghost use Rattle.std.specs.Prelude.{◌≡◌, List, ◌≤◌, ℤ};
 ghost use Rattle.tables.specs.Limits.{largest};
+ghost use Rattle.tables.specs.declared.Pairs.{Pairs as PairsOf};
 ghost use Rattle.grammar.specs.Tree.{Sense as TreeSense, Row, Tree};
 ghost use Rattle.grammar.specs.Certificate.{sense_cell};
 ghost use Rattle.senses.specs.Senses.{sense_is};
 ghost use Rattle.encoding.specs.Places.{indices_at, values_at, side_at, solution_of};
-ghost use Rattle.encoding.specs.Encodes.{HoldsRow};
+ghost use Rattle.encoding.specs.Encodes.{EncodesRow, HoldsRow};
 ghost use Rattle.encoding.specs.Rows.{RowIs};
 
 use crate::Certificate;
@@ -52,7 +53,7 @@ impl<'a> Certificate<'a> {
 
     // The sense of row r.
     pub fn sense(self, r: usize) -> Sense
-        ensures { (tree : Tree) (row : Row) → HoldsRow tree self.entry r row → sense_is result ≡ row.sense }
+        ensures { (tree : Tree) (values : List ℤ) (objective : PairsOf) (row : Row) → EncodesRow tree self.entry.index.now values self.entry.rows.now objective r row → sense_is result ≡ row.sense }
     {
         let entry = tables::entry_at(self.rows, r);
         sense_of(tables::cell_at(self.index, entry.cell))

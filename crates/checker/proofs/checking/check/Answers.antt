@@ -19,7 +19,7 @@ solved : (c : After-objectives_of) (tree : Tree) → Holds tree c.args.certifica
 solved c tree h = after_solutions tree c.in_ok-check_solutions.was (c.check_solutions.ensures tree h)
 
 told : (c : After-objectives_of) (tree : Tree) → Holds tree c.args.certificate → ObjectivesSay tree (end_says c.end_to_reach-to_reach.result) c.objectives_of.result
-told c tree h = c.objectives_of.ensures tree h (finite-fraction _ (c.end_to_reach-to_reach.ensures.formed tree h))
+told c tree h = c.objectives_of.ensures tree h (finite-fraction _ (c.end_to_reach-to_reach.ensures.formed tree _ h))
 
 worked : (c : In_ok-best) (tree : Tree) → Holds tree c.args.certificate → Worked tree (end_says c.end_to_reach-to_reach.result) c.in_ok-best.best
 worked c tree h = found tree _ c.in_ok-best.was (told (goal.at.In_ok-best c).After-objectives_of tree h)
@@ -29,7 +29,7 @@ proved_next : (c : After-check_derivations) (tree : Tree) (h : Holds tree c.args
     → check_of tree ≡ proof_of tree (worked (goal.at.After-check_derivations c).In_ok-best tree h).values
 proved_next c tree h =
     solved (goal.at.After-check_derivations c).After-objectives_of tree h
-    ∙ is_reached tree (c.end_to_reach-to_reach.ensures.says tree h) (worked (goal.at.After-check_derivations c).In_ok-best tree h) (search rules)
+    ∙ is_reached tree (c.end_to_reach-to_reach.ensures.says tree _ h) (worked (goal.at.After-check_derivations c).In_ok-best tree h) (search rules)
 
 derived : (c : After-check_derivations) (tree : Tree) (h : Holds tree c.args.certificate)
     → verdict_says c.check_derivations.result ≡ derivations_of tree (worked (goal.at.After-check_derivations c).In_ok-best tree h).values
@@ -48,7 +48,7 @@ returns-in_err-best c =
 pub returns-then-not-best : goal.returns-then-not-best
 returns-then-not-best c =
     λ tree h.
-    not-reached tree (c.end_to_reach-to_reach.ensures.says tree h) (worked (goal.at.returns-then-not-best c).In_ok-best tree h) (search rules) (ap (λ (x : Header). x.relation) h.header_is)
+    not-reached tree (c.end_to_reach-to_reach.ensures.says tree _ h) (worked (goal.at.returns-then-not-best c).In_ok-best tree h) (search rules) (ap (λ (x : Header). x.relation) h.header_is)
     ∙ sym (solved (goal.at.returns-then-not-best c).After-objectives_of tree h)
 
 pub returns-in_err-check_derivations : goal.returns-in_err-check_derivations

@@ -11,7 +11,7 @@ loop-k-preserved c =
     let inside : let a = c.args in c.loop-k.k < pairs_in a.self.rows.now a.self.factors.now = subst (λ (n : ℕ). c.loop-k.k < n) c.count-k-end.ensures c.loop-k-test.true in
     λ tree e below.
     signing_on (listed_next a_multiplier _ _ _ inside) (c.loop-k.invariant tree e below) _ c.next-signs.ensures
-    (signed_is tree _ (c.sense-sense.ensures tree _ (e.row _ (multiplier-below _ _ _ below _ inside).0)) c.value_at.ensures)
+    (signed_is tree _ (c.sense-sense.ensures tree _ _ _ (e.row _ (multiplier-below _ _ _ below _ inside).0)) c.value_at.ensures)
 
 pub returns : goal.returns
 returns c =
