@@ -5,8 +5,8 @@ ghost use Rattle.std.specs.Prelude.{◌+◌, ◌<◌, ◌≤◌, length, IfOk, I
 ghost use Rattle.std.specs.Iterator.{at_most};
 
 use std::fmt::Display;
-use std::io;
-use std::io::{Print, Read};
+use std::io::Read;
+use std::{fmt, io};
 
 // Reads until the room is full or the input ends, and answers how many bytes came, at the start of the room.
 pub fn read_full<R: Read>(input: &mut R, room: &mut [u8]) -> io::Result<usize>
@@ -75,10 +75,15 @@ impl<'a> Iterator for Cases<'a> {
     }
 }
 
-// Writes a line with cells, each after a space.
-pub fn print_cells<T: Display>(out: &impl Print, cells: &[T]) -> io::Result<()> {
-    for cell in cells {
-        print!(out; " {cell}")?;
+// Cells, each after a space.
+#[derive(Drop)]
+pub struct Cells<'a, T>(pub &'a [T]);
+
+impl<'a, T: Display> Display for Cells<'a, T> {
+    fn fmt<W: fmt::Write>(&self, f: &mut fmt::Formatter<W>) -> fmt::Result {
+        for cell in self.0 {
+            write!(f, " {cell}")?;
+        }
+        Ok(())
     }
-    println!(out)
 }

@@ -5,7 +5,7 @@
 
 ghost use Rattle.std.specs.Prelude.{◌≤◌};
 
-use case_texts::{Case, Cases, print_cells};
+use case_texts::{Case, Cases, Cells};
 use grammar::Refused;
 use std::io;
 use std::io::Print;
@@ -66,11 +66,11 @@ fn print_chosen(
     rows: &[u16; 4352],
 ) -> io::Result<()> {
     let last = rows[4094] as usize;
-    print_cells(out, &index[..12])?;
-    print_cells(out, index.get(last..last + 8).unwrap_or(&[]))?;
-    print_cells(out, &rows[..8])?;
-    print_cells(out, &rows[2044..2052])?;
-    print_cells(out, &rows[4088..4100])?;
+    println!(out; "{}", Cells(&index[..12]))?;
+    println!(out; "{}", Cells(index.get(last..last + 8).unwrap_or(&[])))?;
+    println!(out; "{}", Cells(&rows[..8]))?;
+    println!(out; "{}", Cells(&rows[2044..2052]))?;
+    println!(out; "{}", Cells(&rows[4088..4100]))?;
     print_values(out, &values[..8])?;
     print_values(out, &values[2044..2052])?;
     print_values(out, &values[3584..3600])
@@ -92,10 +92,10 @@ fn read_case(out: &impl Print, case: Case<'_>) -> io::Result<()> {
 
 // Of 01's example: its 24 index cells and the cell after them, rows 0, 1 and 1,024, and the cells after them.
 fn print_tables(out: &impl Print, index: &[u16; 16385], rows: &[u16; 4353]) -> io::Result<()> {
-    print_cells(out, &index[..25])?;
+    println!(out; "{}", Cells(&index[..25]))?;
     print_rest(out, &index[24..])?;
-    print_cells(out, &rows[..12])?;
-    print_cells(out, &rows[4092..4104])?;
+    println!(out; "{}", Cells(&rows[..12]))?;
+    println!(out; "{}", Cells(&rows[4092..4104]))?;
     print_rest(out, &rows[4100..])
 }
 
@@ -131,8 +131,8 @@ fn read_into<const INDEX: usize, const VALUES: usize, const ROWS: usize>(
     let answer = reader::read_certificate(text, &mut index, &mut values, &mut rows);
     print!(out; "{name}")?;
     print_answer(out, answer)?;
-    print_cells(out, &index[..2])?;
-    print_cells(out, &rows[..2])
+    println!(out; "{}", Cells(&index[..2]))?;
+    println!(out; "{}", Cells(&rows[..2]))
 }
 
 // Tables of one cell less than needed, and a text of one byte more.

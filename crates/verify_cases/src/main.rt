@@ -5,7 +5,7 @@
 
 ghost use Rattle.std.specs.Prelude.{◌≤◌};
 
-use case_texts::{Case, Cases, print_cells};
+use case_texts::{Case, Cases, Cells};
 use grammar::Refused;
 use std::io;
 use std::io::Print;
@@ -37,23 +37,23 @@ fn print_tables(
     values: &[i32; 16385],
     rows: &[u16; 4353],
 ) -> io::Result<()> {
-    print_cells(
-        out,
-        &[
+    println!(out;
+        "{}",
+        Cells(&[
             index[0], index[18], index[19], index[20], index[23], index[24],
-        ],
+        ])
     )?;
-    print_cells(
-        out,
-        &[
+    println!(out;
+        "{}",
+        Cells(&[
             values[2], values[3], values[12], values[13], values[10], values[11], values[14],
             values[15],
-        ],
+        ])
     )?;
-    print_cells(out, &rows[..4])?;
-    print_cells(out, &rows[4..8])?;
-    print_cells(out, &rows[8..12])?;
-    print_cells(out, &rows[4096..4100])
+    println!(out; "{}", Cells(&rows[..4]))?;
+    println!(out; "{}", Cells(&rows[4..8]))?;
+    println!(out; "{}", Cells(&rows[8..12]))?;
+    println!(out; "{}", Cells(&rows[4096..4100]))
 }
 
 // The answer to a text like 01's example, and cells of the tables.
@@ -101,7 +101,7 @@ fn verify_into<const ROWS: usize>(out: &impl Print, name: &str, text: &[u8]) -> 
     let answer = checker::verify(text, &mut index, &mut values, &mut rows);
     print!(out; "{name}")?;
     print_answer(out, answer)?;
-    print_cells(out, &[index[0], rows[0]])
+    println!(out; "{}", Cells(&[index[0], rows[0]]))
 }
 
 // A row table of one cell less than needed, and a text of one byte more.
