@@ -2,6 +2,7 @@
 -- Assumes nothing.
 use Rattle.std.specs.Prelude.{◌≡◌, refl, Bool, true, false, cond, ◌&&◌, List, [], ◌∷◌, ◌++◌, ℕ, zero, suc, ◌+◌, ◌-◌, ◌≤◌, ◌<◌, eqb, length, take, drop, get_or}
 use Rattle.std.specs.List.{prefix_len, take_while}
+use Rattle.std.proofs.lemmas.List.{take_all}
 use Rattle.std.proofs.lemmas.List.Folds.{length-prefix_len}
 use Rattle.std.proofs.Common.{◌∙◌, sym, ap, subst, zero-add, suc-add, le_of_suc-le-suc, not-suc-le-zero, add-one, arith, drop-cons, length-drop, eq-eqb, eqb-true}
 use Rattle.std.proofs.Math.Seq.{slice, take-nil}
@@ -115,6 +116,10 @@ module _ (test : ℕ → Bool) (at : ℕ) (text : Bytes) {part : Bytes} {n : ℕ
 
   pub led_le : n ≤ length text - at
   led_le = omega (arith, led_by, leading_le test (drop at text), length-drop at text)
+
+-- what stands from a place on, as a slice
+pub tail_taken : (at : ℕ) (text : Bytes) → take (length text - at) (drop at text) ≡ drop at text
+tail_taken at text = take_all (length text - at) (drop at text) (omega (arith, length-drop at text))
 
 -- ---- parts
 

@@ -23,7 +23,8 @@ pub struct Token {
 fn is_separator(b: u8) -> bool
     ensures { result ≡ is_separator b }
 {
-    matches!(b, b' ' | b'\t' | b'\r' | b'\n')
+    // Kept: tried, `matches!` makes the scan of a text slower by half.
+    b == b' ' || b == b'\t' || b == b'\r' || b == b'\n'
 }
 
 // A decimal digit.
@@ -41,25 +42,48 @@ fn tail(text: &[u8], at: usize) -> &[u8]
     &text[at.min(text.len())..]
 }
 
+// Kept, in the three below: a loop that returns, since `take_while` and `count` take three times as long (docs/PERFORMANCE.md).
+
 // How many separators lead the part.
 fn gap(part: &[u8]) -> usize
     ensures { result ≡ length (take_while is_separator part.now) }
 {
-    part.iter().take_while(|b| is_separator(**b)).count()
+    let mut len = 0;
+    for b in part {
+        if !is_separator(*b) {
+            return len;
+        }
+        len += 1;
+    }
+    len
 }
 
 // How many bytes of a token lead the part.
 fn token_len(part: &[u8]) -> usize
     ensures { result ≡ length (take_while is_token_byte part.now) }
 {
-    part.iter().take_while(|b| !is_separator(**b)).count()
+    let mut len = 0;
+    for b in part {
+        if is_separator(*b) {
+            return len;
+        }
+        len += 1;
+    }
+    len
 }
 
 // How many bytes of a line lead the part.
 fn line_len(part: &[u8]) -> usize
     ensures { result ≡ length (take_while is_line_byte part.now) }
 {
-    part.iter().take_while(|b| **b != b'\n').count()
+    let mut len = 0;
+    for b in part {
+        if *b == b'\n' {
+            return len;
+        }
+        len += 1;
+    }
+    len
 }
 
 // The place after the comments at the start of the text.
@@ -78,8 +102,12 @@ pub fn next_token(text: &[u8], at: usize) -> Option<Token>
     ensures { TokenScanned text.now at result }
 {
     let from = at + gap(tail(text, at));
-    let to = from + token_len(tail(text, from));
-    (from < to).then_some(Token { from, to })
+    if from < text.len() {
+        let to = from + token_len(&text[from..]);
+        Some(Token { from, to })
+    } else {
+        None
+    }
 }
 
 // How many LF bytes.

@@ -25,7 +25,7 @@ returns-then-begins_token c =
     in
     let to = to_begun a.text.now a.place b ∙ sym (led_to is_token_byte a.place a.text.now c.token_len.ensures c.tail.ensures) in
     token_shown a.place
-    (part_at a.place (a.place + c.token_len.result) (from_begun a.text.now a.place b) to (omega arith) inside refl (omega arith) refl)
+    (part_at a.place _ (from_begun a.text.now a.place b) (to ∙ omega (arith, inside)) (omega (arith, inside)) (omega (arith, inside)) refl (omega arith) refl)
 
 pub returns-else-begins_token : goal.returns-else-begins_token
 returns-else-begins_token c =

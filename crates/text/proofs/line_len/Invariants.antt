@@ -1,0 +1,7 @@
+-- `text::line_len` meets its contract: all bytes so far lead the part.
+use Rattle.std.specs.Prelude.{◌≡◌, ◌+◌, length, drop, take_while}
+use Rattle.text.specs.Comments.{is_line_byte}
+use Rattle.text.proofs.line_len.Given as goal
+
+abbrev pub invariant-loop-b : goal.invariant-loop-b
+invariant-loop-b l = (l.len ≡ l.b-index) × (l.len + length (take_while is_line_byte (drop l.b-index l.part)) ≡ length (take_while is_line_byte l.part))
