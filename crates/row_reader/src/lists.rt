@@ -41,7 +41,12 @@ pub fn read_pairs(
     let mut at = cursor;
     for i in 0..count {
         let next = read_pair(text, at, bound, &mut seen, index, values)?;
-        at = next.cursor;
+        // Kept: by its fields, since a copy of the whole waits for the last of them to be stored (docs/PERFORMANCE.md).
+        at = Cursor {
+            at: next.cursor.at,
+            cells: next.cursor.cells,
+            values: next.cursor.values,
+        };
     }
     Ok(Next {
         number: count,
