@@ -31,7 +31,7 @@ pub(crate) fn bytes(text: &[u8], token: Token) -> &[u8]
 pub(crate) fn is(token: &[u8], word: &[u8]) -> bool
     ensures { result ≡ same token.now word.now }
 {
-    token == word
+    text::is_word(token, 0, token.len(), word)
 }
 
 // Its refusal.
