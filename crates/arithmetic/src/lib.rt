@@ -3,7 +3,8 @@
 // `fraction` is the face that tests. What every crate means by a fraction stands here, too.
 #![tactic(auto)]
 
-ghost use Rattle.std.specs.Prelude.{◌≡◌, ◌*◌, ◌≤◌, ◌<◌, pos, nat_abs, ◌*ℤ◌, ◌+ℤ◌, ◌<ℤ◌};
+ghost use Rattle.std.specs.Prelude.{◌≡◌, ◌*◌, ◌≤◌, ◌<◌, ◌++◌, Some, codes, pos, nat_abs, ◌*ℤ◌, ◌+ℤ◌, ◌<ℤ◌};
+ghost use Rattle.std.specs.Fmt.{signed_decimal};
 ghost use Rattle.std.specs.Int.Signed.{mag};
 ghost use Rattle.integers.specs.Signs.{with_sign};
 ghost use Rattle.arithmetic.specs.Quotient.{◌+Q◌, ◌*Q◌, floor_z, ceiling_z};
@@ -26,6 +27,8 @@ pub struct Fraction {
 }
 
 impl fmt::Display for Fraction {
+    ghost output = { λ f. Some (signed_decimal f.num ++ (codes "/" ++ signed_decimal f.den)) };
+
     fn fmt<W: fmt::Write>(&self, f: &mut fmt::Formatter<W>) -> fmt::Result {
         write!(f, "{}/{}", self.num, self.den)
     }
@@ -190,6 +193,7 @@ pub fn sum(a: Fraction, b: Fraction) -> Result<Fraction, ArithmeticError>
 // ---- a sum and a product more
 
 // s + n * m, whole numbers.
+#[inline(always)]
 fn add_product_whole(s: i32, n: i32, m: i32) -> Result<Fraction, ArithmeticError>
     ensures { arithmetic_says result ≡ after (within_of (over (n *ℤ m) 1)) (λ p. within_of (over (s +ℤ p.num) 1)) }
 {
@@ -206,7 +210,16 @@ fn add_product_whole(s: i32, n: i32, m: i32) -> Result<Fraction, ArithmeticError
     .within()
 }
 
+// s + a * b, of any fractions. It is a call of its own, so that the ways before it are inlined in loops (docs/PERFORMANCE.md).
+#[inline(never)]
+fn add_product_any(s: Fraction, a: Fraction, b: Fraction) -> Result<Fraction, ArithmeticError>
+    ensures { IsFraction s → IsFraction a → IsFraction b → arithmetic_says result ≡ add_product_of s a b }
+{
+    sum(s, product(a, b)?)
+}
+
 // A sum and a product more: a * b, then s + a * b, each brought to lowest terms within the limit.
+#[inline(always)]
 pub fn add_product(s: Fraction, a: Fraction, b: Fraction) -> Result<Fraction, ArithmeticError>
     ensures { IsFraction s → IsFraction a → IsFraction b → arithmetic_says result ≡ add_product_of s a b }
 {
@@ -216,7 +229,8 @@ pub fn add_product(s: Fraction, a: Fraction, b: Fraction) -> Result<Fraction, Ar
     if s.den == 1 && a.den == 1 && b.den == 1 {
         return add_product_whole(s.num, a.num, b.num);
     }
-    sum(s, product(a, b)?)
+    // Kept: taken apart and put together, so that what the other ways answer stays in registers (docs/PERFORMANCE.md).
+    Ok(add_product_any(s, a, b)?)
 }
 
 // ---- comparison

@@ -1,13 +1,10 @@
 -- `arithmetic::add_product` meets its contract: a product with 0, whole numbers, and then any.
-use Rattle.std.proofs.Common.{rules, Err}
+use Rattle.std.proofs.Common.{rules}
 use mathlib.Core.Path.{◌≡◌, sym, ◌∙◌, ap}
 use lib.IntN.{nat_abs}
 use Rattle.integers.proofs.Casts.{back_of}
-use Rattle.arithmetic.specs.Outcome.{Outcome}
-use Rattle.arithmetic.specs.Fraction.{IsFraction, sum_of, after, arithmetic_says}
+use Rattle.arithmetic.specs.Fraction.{IsFraction}
 use Rattle.arithmetic.specs.declared.Fraction.{Fraction}
-use Rattle.arithmetic.proofs.Laws.{product_is}
-use Rattle.arithmetic.proofs.Meaning.{product_then_sum}
 use Rattle.arithmetic.proofs.Ways.{Told, zero-read, one-read}
 use Rattle.arithmetic.proofs.Whole.{IsWhole, whole-add, zero_added}
 use Rattle.arithmetic.proofs.add_product.Goals as goal
@@ -31,15 +28,3 @@ returns-then-b-eq1 c =
     (whole _ u (ap nat_abs (one-read c.args.s.den told_s.1 c.if-s-eq1.true)))
     (whole _ v (ap nat_abs (one-read c.args.a.den told_a.1 c.if-a-eq1.true)))
     (whole _ w (ap nat_abs (one-read c.args.b.den told_b.1 c.if-b-eq1.true)))
-
-pub returns-in_err-product : goal.returns-in_err-product
-returns-in_err-product c = λ u v w.
-    let same : c.from_residual.result ≡ Err c.in_err-product.field-0.0 = search rules in
-    ap arithmetic_says same ∙ ap (λ (o : Outcome Fraction). after o (sum_of c.args.s)) (c.in_err-product.ensures v w)
-    ∙ sym (product_then_sum c.args.s c.args.a c.args.b (u, v, w))
-
-pub returns : goal.returns
-returns c = λ u v w.
-    let gave = c.in_ok-product.ensures v w in
-    c.sum.ensures u (product_is c.args.a c.args.b _ (sym gave)) ∙ ap (λ (o : Outcome Fraction). after o (sum_of c.args.s)) gave
-    ∙ sym (product_then_sum c.args.s c.args.a c.args.b (u, v, w))
