@@ -41,6 +41,7 @@ pub fn is_at_most(a: Fraction, b: Fraction) -> bool
 }
 
 // A sum and a product more: the product, then the sum.
+#[inline(always)]
 pub fn plus_product(sum: Fraction, a: Fraction, b: Fraction) -> Result<Fraction, ArithmeticError>
     ensures { IsFraction sum → IsFraction a → IsFraction b → (place : ℕ) → within12 place (arithmetic_says result) ≡ bind (product_at place a b) (λ p. sum_at place sum p) }
 {
