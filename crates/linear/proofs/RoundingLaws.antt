@@ -1,9 +1,10 @@
 -- Integral coefficients.
 -- Assumes nothing.
 use mathlib.Core.Path.{◌≡◌, refl, sym, ◌∙◌, ap}
-use mathlib.Core.Bool.{Bool}
+use mathlib.Core.Bool.{Bool, true}
 use mathlib.Core.List.{List}
-use Prim.Native.Nat.{ℕ}
+use Prim.Native.Nat.{ℕ, ◌≤◌}
+use lib.ListN.{length}
 use Rattle.arithmetic.specs.declared.Fraction.{Fraction}
 use Rattle.grammar.specs.Tree.{Term, Tree}
 use Rattle.rules.specs.Tests.{all_of, every_below}
@@ -11,12 +12,17 @@ use Rattle.rules.specs.Rows.{value_in, variables, Constraint}
 use Rattle.rules.specs.Rounding.{is_integer, is_integral}
 use Rattle.rules.specs.Sentence.Formed.{Formed}
 use Rattle.senses.specs.Rounding.{may_stand}
-use Rattle.linear.specs.Coefficients.{marked, VariablesAre}
+use Rattle.linear.specs.Coefficients.{coefficients_of, marked, VariablesAre}
+use Rattle.linear.specs.declared.coefficients.Coefficients.{Coefficients}
+use Rattle.linear.proofs.CoefficientsLaws.{coefficient_beyond}
 use Rattle.linear.proofs.Counting.{every-same}
 use Rattle.linear.proofs.ListedLaws.{every-listed}
 
 abbrev pub integral_at : (ℕ → Fraction) → List Bool → ℕ → Bool
 integral_at coefficient integers v = may_stand (coefficient v) (marked integers v)
+
+pub integral_beyond : (c : Coefficients) (integers : List Bool) (v : ℕ) → length c.of ≤ v → integral_at (coefficients_of c) integers v ≡ true
+integral_beyond c integers v h = ap (λ (f : Fraction). may_stand f (marked integers v)) (coefficient_beyond c v h)
 
 module _ (tree : Tree) (n : ℕ) (integers : List Bool) (are : VariablesAre tree n integers) (c : Constraint) where
   -- of the coefficients of a constraint

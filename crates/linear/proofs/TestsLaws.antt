@@ -1,10 +1,12 @@
--- A test of each of a list, in order: where a loop over it is. And a test of every variable.
+-- A test of each of a list, in order: where a loop over it is. And a test of every variable, by a loop over those that have their
+-- place in the array.
 -- Assumes nothing.
 use mathlib.Core.Path.{◌≡◌, sym, ◌∙◌, ap}
 use mathlib.Core.Bool.{Bool, true, false, ◌&&◌}
 use mathlib.Core.List.{List, [], ◌∷◌}
-use Prim.Native.Nat.{ℕ, zero, suc, ◌+◌, ◌<◌}
+use Prim.Native.Nat.{ℕ, zero, suc, ◌+◌, ◌≤◌, ◌<◌, min}
 use native.Mathlib.Numerals.{add-one}
+use native.Mathlib.Decide.{dec_lt}
 use native.Mathlib.Omega.{arith}
 use lib.IntN.{ℤ}
 use lib.ListN.{get_or}
@@ -60,3 +62,11 @@ module _ (test : ℕ → Bool) where
     where
       decides_true : (b : Bool) → Decides b (b ≡ true)
       decides_true b = ((λ e. e), λ e. e)
+
+  -- all in the array pass, and those beyond it do
+  pub every_end : (n v : ℕ) → min n 256 ≤ v → every_below v test ≡ true → ((u : ℕ) → 256 ≤ u → test u ≡ true) → every_below n test ≡ true
+  every_end n v h e beyond = (decides_each n).1 (λ u k. go u k (dec_lt u v))
+    where
+      go : (u : ℕ) → u < n → Dec (u < v) → test u ≡ true
+      go u k (yes l) = (decides_each v).0 e u l
+      go u k (no l) = beyond u (omega arith)

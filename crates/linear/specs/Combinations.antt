@@ -1,30 +1,29 @@
 -- Running combinations: what those of the code stand for.
 -- Assumes nothing.
-use Rattle.std.specs.Prelude.{List, ℕ, Result, Ok, Err}
+use Rattle.std.specs.Prelude.{List, ℕ, Option, Some, None, IfSome}
 use Rattle.arithmetic.specs.Fraction.{IsFraction}
-use Rattle.arithmetic.specs.declared.ArithmeticError.{ArithmeticError}
 use Rattle.arithmetic.specs.declared.Fraction.{Fraction}
 use Rattle.tables.specs.Limits.{most_variables}
 use Rattle.grammar.specs.Tree.{Term}
-use Rattle.rules.specs.Result as result
+use Rattle.rules.specs.Result.{Result, done, refused}
 use Rattle.rules.specs.Combinations as rules
 use Rattle.linear.specs.Lists.{TermsBelow}
 use Rattle.linear.specs.Coefficients.{coefficients_of, AreFractions}
 use Rattle.linear.specs.declared.combinations.Combination.{Combination}
 
--- the constraint's coefficients and right side that a combination stands for
-abbrev pub combination_of : Combination → rules.Combination
-combination_of c = record { coefficient = coefficients_of c.coefficients; right = c.right }
+-- the constraint that coefficients and a right side are, where each product and sum was within the limit; else 12 at a place
+abbrev pub combination_with : (ℕ → Fraction) → ℕ → Option Fraction → Result rules.Combination
+combination_with coefficient place (Some right) = done (record { coefficient = coefficient; right = right })
+combination_with coefficient place None = refused 12 place
 
--- the next combination, where each product and sum is within the limit; else 12 at a place
-abbrev pub combination_says : ℕ → Result Combination ArithmeticError → result.Result rules.Combination
-combination_says place (Ok c) = result.done (combination_of c)
-combination_says place (Err _) = result.refused 12 place
+-- the one that a combination stands for, or 12 at a place
+abbrev pub combination_says : ℕ → Combination → Result rules.Combination
+combination_says place c = combination_with (coefficients_of c.coefficients) place c.right
 
 -- the coefficients and the right side of a combination are fractions
 pub record HasFractions (c : Combination) : Type 0 where
   pub coefficients : AreFractions (coefficients_of c.coefficients)
-  pub right : IsFraction c.right
+  pub right : IfSome c.right IsFraction
 
 -- what is asked of a row and its multiplier, which a combination takes: all values are fractions, and the variables have their
 -- place in the arrays

@@ -1,5 +1,5 @@
 // Domination: the coefficients of one constraint in an array, those of the other as listed terms.
-ghost use Rattle.std.specs.Prelude.{◌≡◌, ℕ, count_by};
+ghost use Rattle.std.specs.Prelude.{◌≡◌, ℕ, count_by, take};
 ghost use Rattle.std.specs.List.{range_with_len, list_all};
 ghost use Rattle.tables.specs.Cells.{fraction_at};
 ghost use Rattle.tables.specs.Pairs.{pairs_in};
@@ -19,6 +19,7 @@ use crate::coefficients::Coefficients;
 use crate::lists::Terms;
 use crate::rows::Row;
 use senses::{Bound, values};
+use tables::limits;
 
 // What is told of coefficients that are held against the listed terms of a row: whether they are equal to the row's, and whether
 // all are zero.
@@ -31,9 +32,16 @@ pub struct Compared {
 impl Coefficients {
     // How many of n are not zero.
     pub(crate) fn nonzeros(&self, n: usize) -> usize
-        ensures { result ≡ count_by (λ v. is_nonzero (coefficients_of self.now v)) (range_with_len 0 n) }
+        ensures { result ≡ count_by (λ f. is_nonzero f) (take n self.now.of) }
     {
-        (0..n).filter(|v| !values::is_zero(self.at(*v))).count()
+        // Kept: a loop that counts, since a chain of `filter` and `count` tests one after the other (docs/PERFORMANCE.md).
+        let mut count = 0;
+        for f in &self.of[..n.min(limits::VARIABLES)] {
+            if !values::is_zero(*f) {
+                count += 1;
+            }
+        }
+        count
     }
 
     // Whether listed terms give each variable the coefficient that it has here, where so many are not zero: each listed one is
@@ -80,7 +88,7 @@ impl<'a> Terms<'a> {
     fn are_zero(self) -> bool
         ensures { result ≡ list_all (λ k. is_zero (exact (fraction_at self.entry.parts.now k))) (range_with_len 0 (pairs_in self.entry.variables.now self.entry.parts.now)) }
     {
-        (0..self.count()).all(|k| values::is_zero(self.term(k).1))
+        (0..self.count()).all(|k| values::is_zero(tables::value_at(self.parts, k)))
     }
 }
 

@@ -1,5 +1,5 @@
 // Lists of variable and coefficient.
-ghost use Rattle.std.specs.Prelude.{◌≡◌, get_or};
+ghost use Rattle.std.specs.Prelude.{◌≡◌, ◌<◌, get_or};
 ghost use Rattle.tables.specs.Limits.{most_variables};
 ghost use Rattle.tables.specs.Cells.{fraction_at};
 ghost use Rattle.tables.specs.Pairs.{pairs_in};
@@ -27,12 +27,17 @@ impl<'a> Terms<'a> {
 
     // Term k: its variable and its coefficient.
     pub(crate) fn term(self, k: usize) -> (usize, Fraction)
+        requires { k < pairs_in self.variables.now self.parts.now }
         ensures variable { result.0 ≡ get_or self.entry.variables.now k 0 }
         ensures coefficient { result.1 ≡ fraction_at self.entry.parts.now k }
     {
+        // Kept: by index, since a test at each read slows left sides by half (docs/PERFORMANCE.md).
         (
-            tables::cell_at(self.variables, k),
-            tables::value_at(self.parts, k),
+            usize::from(self.variables[k]),
+            Fraction {
+                num: self.parts[2 * k],
+                den: self.parts[2 * k + 1],
+            },
         )
     }
 

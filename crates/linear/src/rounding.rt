@@ -10,6 +10,7 @@ ghost use Rattle.linear.specs.Coefficients.{coefficients_of, VariablesAre};
 use crate::coefficients::{Coefficients, is_marked};
 use crate::lists::Terms;
 use senses::values;
+use tables::limits;
 
 impl Coefficients {
     // Whether each is whole, and those that are not zero stand at integer variables: of every tree that has n variables and these
@@ -17,7 +18,7 @@ impl Coefficients {
     pub fn is_integral(&self, integers: &[bool; 256], n: usize) -> bool
         ensures { (tree : Tree) → VariablesAre tree n integers.now → (c : Constraint) → c.coefficient ≡ coefficients_of self.now → result ≡ is_integral tree c }
     {
-        for v in 0..n {
+        for v in 0..n.min(limits::VARIABLES) {
             if !values::may_stand(self.at(v), is_marked(integers, v)) {
                 return false;
             }

@@ -5,15 +5,15 @@ use lib.Dec.{eqb}
 use Rattle.arithmetic.specs.Fraction.{exact}
 use Rattle.rules.specs.Values.{is_zero}
 use Rattle.linear.specs.Coefficients.{coefficients_of}
-use Rattle.linear.specs.Comparing.{is_nonzero}
-use Rattle.linear.proofs.Counting.{none_counted, count_range}
+use Rattle.linear.proofs.CoefficientsLaws.{nonzeros_stored}
+use Rattle.linear.proofs.Counting.{none_counted}
 use Rattle.linear.proofs.coefficients.Coefficients.compare.Goals as goal
 
 pub returns : goal.returns
 returns c =
     λ formed are.
     let a = c.args in
-    let many = c.nonzeros-nonzero.ensures ∙ count_range (λ v. is_nonzero (coefficients_of a.self.now v)) a.n in
+    let many = c.nonzeros-nonzero.ensures ∙ nonzeros_stored a.self.now a.n in
     record {
       same = c.are_those_of.ensures _ formed are many;
       zero = ap (λ (k : ℕ). eqb k 0) many ∙ none_counted (λ v. is_zero (exact (coefficients_of a.self.now v))) a.n;

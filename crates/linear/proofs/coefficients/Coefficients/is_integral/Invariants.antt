@@ -1,4 +1,5 @@
--- `linear::coefficients::Coefficients::is_integral` meets its contract: the loop tests each coefficient.
+-- `linear::coefficients::Coefficients::is_integral` meets its contract: the loop tests each coefficient in the array; those beyond it
+-- are 0.
 use mathlib.Core.Path.{◌≡◌}
 use mathlib.Core.Bool.{true}
 use Rattle.rules.specs.Tests.{every_below}

@@ -5,4 +5,4 @@ use Rattle.linear.proofs.CoefficientsLaws.{coefficients_set}
 use Rattle.linear.proofs.coefficients.Coefficients.set.Goals as goal
 
 pub returns-then-v-lt-VARIABLES : goal.returns-then-v-lt-VARIABLES
-returns-then-v-lt-VARIABLES c = λ h. coefficients_set _ _ _ _ (omega arith) refl
+returns-then-v-lt-VARIABLES c = λ is h. coefficients_set _ _ _ _ (omega arith) refl is
