@@ -23,13 +23,13 @@ use Rattle.senses.specs.Signs.{signed_by, next_signs, none_negative, none_positi
 use Rattle.senses.specs.declared.signs.Signs.{Signs}
 use Rattle.linear.specs.Lists.{terms_of}
 use Rattle.linear.specs.ListsLaws.{listed_from, listed_next, all-at, formed_below}
-use Rattle.std.specs.Prelude as code
-use Rattle.std.specs.Prelude.{Ok, Err, IfOk, IsErr}
+use Rattle.std.specs.Prelude.{Option, None}
 use Rattle.linear.specs.declared.rows.Row.{Row}
 use Rattle.tables.specs.Limits.{most_variables}
-use Rattle.linear.specs.Combinations.{combination_of, combination_says, HasFractions, Takes}
+use Rattle.senses.proofs.ArithmeticLaws.{bind_assoc}
+use Rattle.linear.specs.Coefficients.{coefficients_of}
+use Rattle.linear.specs.Combinations.{combination_with, combination_says, HasFractions, Takes}
 use Rattle.linear.specs.declared.combinations.Combination.{Combination}
-use Rattle.arithmetic.specs.declared.ArithmeticError.{ArithmeticError}
 use Rattle.encoding.specs.Places.{a_multiplier}
 use Rattle.encoding.specs.declared.Certificate.{Certificate}
 use Rattle.derivations.specs.Combining.{multipliers_in, MultipliersBelow}
@@ -88,44 +88,50 @@ signed_is tree m p q = λ i. signed_by (p i) (q i)
 abbrev pub row_step : Tree → ℕ → rules.Combination → Multiplier → Result rules.Combination
 row_step tree place so_far m = next_combination place m.factor (rows.terms_of tree (row_at tree m.row)) (row_at tree m.row).right so_far
 
--- a combination that fits, and that with the rows that are left gives that of all
+-- a combination so far, with the rows that are left, gives that of all
 pub record Combining (tree : Tree) (all left : List Multiplier) (c : Combination) : Type 0 where
   pub fractions : HasFractions c
-  pub same : (place : ℕ) → through (row_step tree place) (combination_of c) left ≡ combine tree place all
+  pub same : (place : ℕ) → bind (combination_says place c) (λ (u : rules.Combination). through (row_step tree place) u left) ≡ combine tree place all
 
-pub combining : (tree : Tree) (all : List Multiplier) {c : Combination} → combination_of c ≡ rules.empty_combination → HasFractions c → Combining tree all all c
+pub combining : (tree : Tree) (all : List Multiplier) {c : Combination} → ((place : ℕ) → combination_says place c ≡ done rules.empty_combination) → HasFractions c → Combining tree all all c
 unfolding combine
-combining tree all e h = record { fractions = h; same = λ place. ap (λ (s : rules.Combination). through (row_step tree place) s all) e }
-
--- what comes of the next row
-pub record Stepped (tree : Tree) (all left : List Multiplier) (d : code.Result Combination ArithmeticError) : Type 0 where
-  pub fractions : IfOk d HasFractions
-  pub says : (place : ℕ) → bind (combination_says place d) (λ (u : rules.Combination). through (row_step tree place) u left) ≡ combine tree place all
+combining tree all e h =
+    record { fractions = h; same = λ place. ap (λ (r : Result rules.Combination). bind r (λ (u : rules.Combination). through (row_step tree place) u all)) (e place) }
 
 -- by what fetching the row and its factor gives, and what the next combination says
 module _ {tree : Tree} (n : Certificate) (named : List ℕ) (factors : List ℤ) (below : MultipliersBelow n.header.rows (multipliers_in named factors)) {k : ℕ} (lt : k < pairs_in named factors) (few : n.header.variables ≤ most_variables) where
-  pub stepped : {all : List Multiplier} {c : Combination} → Combining tree all (listed_from a_multiplier named factors k) c → {x : Row} → Stands tree n (row_at tree (get_or named k 0)) x
-      → {factor : Fraction} → factor ≡ fraction_at factors k → (d : code.Result Combination ArithmeticError)
-      → (Takes c (terms_of x.terms) x.bound.right factor → (place : ℕ) → combination_says place d ≡ next_combination place factor (terms_of x.terms) x.bound.right (combination_of c))
-      → (Takes c (terms_of x.terms) x.bound.right factor → IfOk d HasFractions) → Stepped tree all (listed_from a_multiplier named factors (k + 1)) d
-  stepped {all} {c} g {x} s {factor} q d says fractions =
+  pub combining_on : {all : List Multiplier} {c : Combination} → Combining tree all (listed_from a_multiplier named factors k) c → {x : Row} → Stands tree n (row_at tree (get_or named k 0)) x
+      → {factor : Fraction} → factor ≡ fraction_at factors k → (d : Combination)
+      → (Takes c (terms_of x.terms) x.bound.right factor → (place : ℕ) → combination_says place d ≡ bind (combination_says place c) (next_combination place factor (terms_of x.terms) x.bound.right))
+      → (Takes c (terms_of x.terms) x.bound.right factor → HasFractions d) → Combining tree all (listed_from a_multiplier named factors (k + 1)) d
+  combining_on {all} {c} g {x} s {factor} q d says fractions =
       let one = multiplier-below named factors n.header.rows below k lt in
       let taken : Takes c (terms_of x.terms) x.bound.right factor =
       record { so_far = g.fractions; terms-below = formed_below _ most_variables (terms_of x.terms) few s.formed; right_is = s.fraction; factor_is = subst IsFraction (sym q) one.1 } in
       record {
         fractions = fractions taken;
-        says = λ place.
+        same = λ place.
             let rest : rules.Combination → Result rules.Combination = λ u. through (row_step tree place) u (listed_from a_multiplier named factors (k + 1)) in
             ap (λ (r : Result rules.Combination). bind r rest) (says taken place)
-            ∙ (λ j. bind (next_combination place (q j) (s.terms_are j) (s.right_is j) (combination_of c)) rest)
-            ∙ sym (ap (through (row_step tree place) (combination_of c)) (listed_next a_multiplier named factors k lt))
+            ∙ (λ j. bind (bind (combination_says place c) (next_combination place (q j) (s.terms_are j) (s.right_is j))) rest)
+            ∙ sym (bind_assoc (combination_says place c) (λ (u : rules.Combination). row_step tree place u (a_multiplier (get_or named k 0) (fraction_at factors k))) rest)
+            ∙ sym (ap (λ (ms : List Multiplier). bind (combination_says place c) (λ (u : rules.Combination). through (row_step tree place) u ms)) (listed_next a_multiplier named factors k lt))
             ∙ g.same place;
       }
 
--- what `?` hands up
-pub wide_up : (place : ℕ) (z : code.Result Combination ArithmeticError) → IsErr z → refused 12 place ≡ combination_says place z
-wide_up place (Ok c) h = cc
-wide_up place (Err e) h = refl
+-- one that is too wide is the answer
+pub combining_stop : {tree : Tree} {all left : List Multiplier} {c : Combination} → c.right ≡ None → Combining tree all left c → (place : ℕ) → combination_says place c ≡ combine tree place all
+combining_stop {tree} {left = left} {c = c} e g place =
+    ap (combination_with (coefficients_of c.coefficients) place) e
+    ∙ sym (ap (λ (o : Option Fraction). bind (combination_with (coefficients_of c.coefficients) place o) (λ (u : rules.Combination). through (row_step tree place) u left)) e)
+    ∙ g.same place
 
-pub combining_end : {tree : Tree} {all left : List Multiplier} {c : Combination} → left ≡ [] → Combining tree all left c → (place : ℕ) → done (combination_of c) ≡ combine tree place all
-combining_end {tree} {c = c} e g place = sym (ap (through (row_step tree place) (combination_of c)) e) ∙ g.same place
+pub combining_end : {tree : Tree} {all left : List Multiplier} {c : Combination} → left ≡ [] → Combining tree all left c → (place : ℕ) → combination_says place c ≡ combine tree place all
+combining_end {tree} {c = c} e g place =
+    sym (whole (combination_says place c))
+    ∙ sym (ap (λ (ms : List Multiplier). bind (combination_says place c) (λ (u : rules.Combination). through (row_step tree place) u ms)) e)
+    ∙ g.same place
+  where
+    whole : (r : Result rules.Combination) → bind r (λ (u : rules.Combination). done u) ≡ r
+    whole (done u) = refl
+    whole (refused reason at) = refl

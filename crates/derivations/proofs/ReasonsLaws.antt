@@ -3,6 +3,7 @@
 use mathlib.Core.Path.{◌≡◌, refl, sym, ◌∙◌, ap, ap₂, subst}
 use mathlib.Core.Bool.{Bool, false, ◌&&◌}
 use mathlib.Core.List.{List, [], ◌∷◌, map}
+use Rattle.std.specs.Prelude.{Option, Some, None, IfSome}
 use Prim.Native.Nat.{ℕ, suc, ◌+◌, ◌-◌, ◌≤◌, ◌<◌}
 use native.Mathlib.Omega.{arith}
 use borrow.Author.Tests.{lt-ltb}
@@ -14,15 +15,20 @@ use Rattle.arithmetic.specs.Fraction.{IsFraction}
 use Rattle.arithmetic.specs.declared.Fraction.{Fraction}
 use Rattle.tables.specs.Limits.{most_variables}
 use Rattle.tables.specs.declared.Header.{Header}
-use Rattle.grammar.specs.Tree.{Row, Multiplier, Reason, Derivation, Tree}
+use Rattle.grammar.specs.Tree.{Sense, Row, Multiplier, Reason, Derivation, Tree}
 use Rattle.grammar.specs.Certificate.{ReasonWord, reason_cell, Detail, as_reason}
 use Rattle.rules.specs.Tests.{All, all_of, some_of}
-use Rattle.rules.specs.Result.{Result, Verdict, done, bind, ◌and_then◌, require, each_from}
+use Rattle.rules.specs.Result.{Result, Verdict, done, refused, bind, ◌and_then◌, require, each_from}
 use Rattle.rules.specs.Rows.{Constraint, row_of, row_at}
 use Rattle.rules.specs.Combinations as rules
 use Rattle.rules.specs.Combinations.{is_suitable, sense_of, combine, suitable_combination}
 use Rattle.rules.specs.Derivations.{named, check_derivation}
-use Rattle.linear.specs.Coefficients.{marked, VariablesAre}
+use Rattle.senses.specs.Senses.{sense_is, constraint_by}
+use Rattle.senses.specs.declared.Bound.{Bound}
+use Rattle.senses.specs.declared.Sense as code
+use Rattle.linear.specs.Coefficients.{coefficients_of, marked, VariablesAre}
+use Rattle.linear.specs.Combinations.{combination_with, combination_says}
+use Rattle.linear.specs.declared.combinations.Combination.{Combination}
 use Rattle.encoding.specs.Places.{indices_at, values_at, integers_at, word_of, multipliers_of, named_by}
 use Rattle.encoding.specs.Encodes.{EncodesReason, EncodesDerivation, no_derivation, derivation_at, Holds, HoldsRow}
 use Rattle.encoding.proofs.EncodesLaws.{variables_are, rows_are, integers-below, by_word, marks-listed, derived_at}
@@ -32,22 +38,59 @@ use Rattle.encoding.specs.declared.rows.ListedRow.{ListedRow}
 use Rattle.encoding.specs.declared.reasons.Word.{Word}
 use Rattle.derivations.specs.Checks.{Lists, HasMultipliers}
 use Rattle.derivations.specs.Combining.{multipliers_in, MultipliersBelow}
+use Rattle.derivations.specs.Constraints.{bound_with}
 use Rattle.derivations.proofs.RowsLaws.{lists_row}
 
 -- ---- suitable combinations: the sign rule, then the combination
 
--- the constraint that a combination of these multipliers is
-abbrev pub denoted : Tree → List Multiplier → rules.Combination → Result Constraint
-denoted tree ms c = done (record { sense = sense_of tree ms; coefficient = c.coefficient; right = c.right })
+-- the constraint that a combination with this sense is
+abbrev pub denoted : Sense → rules.Combination → Result Constraint
+denoted s c = done (record { sense = s; coefficient = c.coefficient; right = c.right })
 
 -- what the sign rule answered, and the combination after it
-pub suitable_by : (tree : Tree) (place : ℕ) {b : Bool} {ns ms : List Multiplier} {v : Verdict} → b ≡ is_suitable tree ns → ns ≡ ms → v ≡ require b 13 place
-    → v and_then bind (combine tree place ns) (denoted tree ns) ≡ suitable_combination tree place ms
+pub suitable_by : (tree : Tree) (place : ℕ) {ns ms : List Multiplier} → ns ≡ ms → {r : Result Sense} → r ≡ require (is_suitable tree ns) 13 place and_then done (sense_of tree ns)
+    → bind r (λ (s : Sense). bind (combine tree place ns) (denoted s)) ≡ suitable_combination tree place ms
 unfolding suitable_combination
-suitable_by tree place {ns = ns} e q r =
-    ap (λ (v : Verdict). v and_then bind (combine tree place ns) (denoted tree ns)) r
-    ∙ ap (λ (b : Bool). require b 13 place and_then bind (combine tree place ns) (denoted tree ns)) e
+suitable_by tree place {ns = ns} q e =
+    ap (λ (r : Result Sense). bind r (λ (s : Sense). bind (combine tree place ns) (denoted s))) e
+    ∙ go (require (is_suitable tree ns) 13 place)
     ∙ ap (suitable_combination tree place) q
+  where
+    go : (v : Verdict) → bind (v and_then done (sense_of tree ns)) (λ (s : Sense). bind (combine tree place ns) (denoted s)) ≡ v and_then bind (combine tree place ns) (denoted (sense_of tree ns))
+    go (done u) = refl
+    go (refused reason at) = refl
+
+-- the combination by its bound
+pub bound_denotes : (coefficient : ℕ → Fraction) (place : ℕ) (s : code.Sense) (right : Option Fraction)
+    → bind (bound_with place s right) (λ (b : Bound). done (constraint_by coefficient b)) ≡ bind (combination_with coefficient place right) (denoted (sense_is s))
+bound_denotes coefficient place s (Some right) = refl
+bound_denotes coefficient place s None = refl
+
+-- a suitable sense, the combination and what was answered of its bound
+pub suitable_made : (tree : Tree) (place : ℕ) {ns ms : List Multiplier} → ns ≡ ms → (s : code.Sense) → done (sense_is s) ≡ require (is_suitable tree ns) 13 place and_then done (sense_of tree ns)
+    → (c : Combination) → combination_says place c ≡ combine tree place ns → {b : Result Bound} → b ≡ bound_with place s c.right
+    → bind b (λ (b : Bound). done (constraint_by (coefficients_of c.coefficients) b)) ≡ suitable_combination tree place ms
+suitable_made tree place q s e c made f =
+    ap (λ (b : Result Bound). bind b (λ (b : Bound). done (constraint_by (coefficients_of c.coefficients) b))) f
+    ∙ bound_denotes (coefficients_of c.coefficients) place s c.right
+    ∙ ap (λ (r : Result rules.Combination). bind r (denoted (sense_is s))) made
+    ∙ suitable_by tree place q e
+
+-- the right side of a bound that was answered is a fraction
+pub bound_fraction : (place : ℕ) (s : code.Sense) (right : Option Fraction) {b : Bound} → done b ≡ bound_with place s right → IfSome right IsFraction → IsFraction b.right
+bound_fraction place s (Some right) e h = subst (λ (r : Result Bound). right_of r) (sym e) h
+  where
+    right_of : Result Bound → Type 0
+    right_of (done b) = IsFraction b.right
+    right_of (refused reason at) = Unit {0}
+bound_fraction place s None e h = absurd (none e)
+  where
+    is_done : Result Bound → Type 0
+    is_done (done b) = Unit {0}
+    is_done (refused reason at) = ⊥
+
+    none : {b : Bound} → done b ≡ refused 12 place → ⊥
+    none e = subst is_done e tt
 
 -- multipliers that were fetched from where a reason's stand
 pub record Fetched (n : ℕ) (ns ms : List Multiplier) : Type 0 where

@@ -5,6 +5,7 @@ use mathlib.Core.Bool.{Bool}
 use Prim.Native.Nat.{ℕ, ◌≤◌, ◌<◌}
 use native.Mathlib.Omega.{arith}
 use Rattle.arithmetic.specs.Fraction.{IsFraction}
+use Rattle.arithmetic.specs.declared.Fraction.{Fraction}
 use Rattle.tables.specs.Limits.{most_variables}
 use Rattle.grammar.specs.Tree as grammar
 use Rattle.grammar.specs.Tree.{Term, Tree}
@@ -15,7 +16,8 @@ use Rattle.rules.specs.Sentence.Formed.{Formed}
 use Rattle.senses.specs.Senses.{constraint_by}
 use Rattle.linear.specs.Lists.{terms_in, terms_of, TermsBelow}
 use Rattle.linear.specs.ListsLaws.{formed_below, fractions_in}
-use Rattle.linear.specs.Coefficients.{AreFractions}
+use Rattle.linear.specs.Coefficients.{coefficients_of, AreFractions}
+use Rattle.linear.specs.declared.coefficients.Coefficients.{Coefficients}
 use Rattle.linear.specs.declared.lists.Terms.{Terms}
 use Rattle.linear.specs.declared.rows.Row.{Row}
 use Rattle.encoding.specs.Places.{indices_at, values_at}
@@ -25,8 +27,7 @@ use Rattle.encoding.specs.Rows.{RowIs}
 use Rattle.encoding.specs.declared.Certificate.{Certificate}
 use Rattle.encoding.specs.declared.rows.ListedRow.{ListedRow}
 use Rattle.derivations.specs.Checks.{Lists}
-use Rattle.derivations.specs.Constraints.{Stands, constraint_is, HaveFractions}
-use Rattle.derivations.specs.declared.constraints.Constraint.{Constraint}
+use Rattle.derivations.specs.Constraints.{Stands}
 
 -- a row of a certificate, fetched by its index
 pub lists_row : {tree : Tree} (c : Certificate) (e : Holds tree c) {x : ListedRow} (i : ℕ) → i < c.header.rows → RowIs tree c.index.now c.values.now (row_at tree i) x → Lists tree c (row_at tree i) x
@@ -49,14 +50,14 @@ module _ {tree : Tree} {c : Certificate} {r : grammar.Row} {x : ListedRow} (l : 
   pub dominates-row : {y : Row} → Stands tree c r y → {b : Bool} (d : rows.Constraint) → b ≡ dominates c.header.variables d (constraint_by (value_in (terms_of y.terms)) y.bound) → b ≡ dominates (variables tree) d (constraint_of tree r)
   dominates-row s d q = q ∙ (λ i. dominates (sym l.number i) d (s.is i))
 
--- a constraint of the code that was made of listed terms
-module _ {n : ℕ} (few : n ≤ most_variables) (x : Row) (formed : Formed n (terms_of x.terms)) (fraction : IsFraction x.bound.right) (k : Constraint)
-    (e : TermsBelow most_variables (terms_of x.terms) → constraint_is k ≡ constraint_by (value_in (terms_of x.terms)) x.bound) where
-  pub made_is : constraint_is k ≡ constraint_by (value_in (terms_of x.terms)) x.bound
-  made_is = e (formed_below n most_variables (terms_of x.terms) few formed)
+-- coefficients of the code that were made of listed terms
+module _ {n : ℕ} (few : n ≤ most_variables) (x : Row) (formed : Formed n (terms_of x.terms)) (k : Coefficients)
+    (e : TermsBelow most_variables (terms_of x.terms) → coefficients_of k ≡ value_in (terms_of x.terms)) where
+  below : TermsBelow most_variables (terms_of x.terms)
+  below = formed_below n most_variables (terms_of x.terms) few formed
 
-  pub made_fractions : HaveFractions k
-  made_fractions = record {
-    coefficients = subst AreFractions (sym (ap (λ (d : rows.Constraint). d.coefficient) made_is)) (fractions_in most_variables (terms_of x.terms) (formed_below n most_variables (terms_of x.terms) few formed));
-    right = subst IsFraction (sym (ap (λ (d : rows.Constraint). d.right) made_is)) fraction;
-  }
+  pub made_is : constraint_by (coefficients_of k) x.bound ≡ constraint_by (value_in (terms_of x.terms)) x.bound
+  made_is = ap (λ (f : ℕ → Fraction). constraint_by f x.bound) (e below)
+
+  pub made_fractions : AreFractions (coefficients_of k)
+  made_fractions = subst AreFractions (sym (e below)) (fractions_in most_variables (terms_of x.terms) below)

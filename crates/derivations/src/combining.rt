@@ -1,5 +1,5 @@
 // The multipliers of a reason: their signs, and the combination of the rows that they name.
-ghost use Rattle.std.specs.Prelude.{◌≡◌, ℕ, IfOk};
+ghost use Rattle.std.specs.Prelude.{◌≡◌, ℕ};
 ghost use Rattle.tables.specs.Pairs.{pairs_in};
 ghost use Rattle.grammar.specs.Tree.{Tree};
 ghost use Rattle.rules.specs.Combinations.{combine as combine_of};
@@ -10,7 +10,6 @@ ghost use Rattle.encoding.specs.Encodes.{Holds};
 ghost use Rattle.derivations.specs.Combining.{multipliers_are, MultipliersBelow};
 
 use crate::constraints;
-use arithmetic::ArithmeticError;
 use encoding::Certificate;
 use linear::combinations::Combination;
 use senses::signs::Signs;
@@ -55,16 +54,20 @@ impl<'a> Multipliers<'a> {
     }
 
     // The combination of the rows, in order. Nothing is combined after the first result that is too wide.
-    pub fn combine(self, certificate: Certificate) -> Result<Combination, ArithmeticError>
+    #[inline(always)]
+    pub fn combine(self, certificate: Certificate) -> Combination
         ensures says { (tree : Tree) → Holds tree certificate.entry → MultipliersBelow certificate.entry.header.rows (multipliers_are self.entry) → (place : ℕ) → combination_says place result ≡ combine_of tree place (multipliers_are self.entry) }
-        ensures fractions { (tree : Tree) → Holds tree certificate.entry → MultipliersBelow certificate.entry.header.rows (multipliers_are self.entry) → IfOk result HasFractions }
+        ensures fractions { (tree : Tree) → Holds tree certificate.entry → MultipliersBelow certificate.entry.header.rows (multipliers_are self.entry) → HasFractions result }
     {
         let mut made = Combination::empty();
         for k in 0..self.count() {
             let row = constraints::row_of(certificate, certificate.row(self.rows[k] as usize));
             let factor = tables::value_at(self.factors, k);
-            made = made.next(row.terms, row.bound.right, factor)?;
+            made = made.next(row.terms, row.bound.right, factor);
+            if made.right.is_none() {
+                return made;
+            }
         }
-        Ok(made)
+        made
     }
 }

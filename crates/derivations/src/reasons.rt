@@ -1,56 +1,59 @@
 // The reasons: what is asked of a derived row by each, 15 last.
-ghost use Rattle.std.specs.Prelude.{◌≡◌, List, ◌<◌, IfOk, IfSome};
+ghost use Rattle.std.specs.Prelude.{◌≡◌, List, ◌<◌, IfSome};
 ghost use Rattle.arithmetic.specs.Fraction.{IsFraction};
 ghost use Rattle.grammar.specs.Tree.{Row as TreeRow, Multiplier, uns, Tree};
 ghost use Rattle.rules.specs.Tests.{All};
 ghost use Rattle.rules.specs.Rows.{constraint_of, row_at};
-ghost use Rattle.rules.specs.Combinations.{suitable_combination};
+ghost use Rattle.rules.specs.Result.{done, ◌and_then◌, require};
+ghost use Rattle.rules.specs.Combinations.{is_suitable, sense_of};
 ghost use Rattle.rules.specs.Splits.{is_proper_split};
 ghost use Rattle.rules.specs.Derivations.{named, check_dominates, check_lin, check_rnd, check_uns, check_sol};
 ghost use Rattle.encoding.specs.Encodes.{Holds};
 ghost use Rattle.verdicts.specs.Verdicts.{verdict_says};
 ghost use Rattle.verdicts.specs.Best.{best_says};
 ghost use Rattle.derivations.specs.Checks.{Checks, Lists, HasMultipliers, unsplit_of};
-ghost use Rattle.derivations.specs.Constraints.{constraint_says, HaveFractions};
+ghost use Rattle.derivations.specs.Combining.{multipliers_are, MultipliersBelow};
+ghost use Rattle.derivations.specs.Constraints.{sense_says, bound_says, bound_with};
 
 use crate::combining::Multipliers;
 use crate::constraints::Constraint;
 use crate::{Checker, constraints, require};
+use arithmetic::Fraction;
 use encoding::Certificate;
 use encoding::rows::ListedRow;
 use grammar::{Refusal, Stop};
 use linear::rows::Row;
-use senses::Bound;
+use senses::{Bound, Sense};
 use verdicts::Verdict;
 
 // ---- **lin** and **rnd**
 
-// "13, 12": the sign rule first, then the combination of the row `own`'s multipliers, refused at this place.
-fn suitable_combination(
+// The sign rule, else 13: the sense of the multipliers' combination, refused at this place.
+fn suitable_sense(
     certificate: Certificate,
-    own: usize,
+    multipliers: Multipliers,
     place: usize,
-) -> Result<Constraint, Stop>
-    ensures says { (tree : Tree) (ms : List Multiplier) → Holds tree certificate.entry → HasMultipliers certificate.entry own ms → constraint_says result ≡ suitable_combination tree place ms }
-    ensures fractions { (tree : Tree) (ms : List Multiplier) → Holds tree certificate.entry → HasMultipliers certificate.entry own ms → IfOk result HaveFractions }
+) -> Result<Sense, Stop>
+    ensures { (tree : Tree) → Holds tree certificate.entry → MultipliersBelow certificate.entry.header.rows (multipliers_are multipliers.entry) → sense_says result ≡ (require (is_suitable tree (multipliers_are multipliers.entry)) 13 place) and_then done (sense_of tree (multipliers_are multipliers.entry)) }
 {
-    let multipliers = Multipliers::of(certificate, own);
     let signs = multipliers.signs(certificate);
     let suitable = signs.are_suitable();
     require(suitable, Refusal::MultipliersNotSuitable, place)?;
-    let Ok(made) = multipliers.combine(certificate) else {
+    Ok(signs.sense())
+}
+
+// The bound of a combination with this sense, by its right side; 12 at the row's name where there is none.
+fn bound_of(row: ListedRow, sense: Sense, right: Option<Fraction>) -> Result<Bound, Stop>
+    ensures { bound_says result ≡ bound_with row.place sense right }
+{
+    let place = row.place;
+    let Some(right) = right else {
         return Err(Stop {
             reason: Refusal::ResultTooWide,
             place,
         });
     };
-    Ok(Constraint {
-        coefficients: made.coefficients,
-        bound: Bound {
-            sense: signs.sense(),
-            right: made.right,
-        },
-    })
+    Ok(Bound { sense, right })
 }
 
 // ---- **uns**
@@ -60,7 +63,7 @@ fn check_by_row(certificate: Certificate, row: ListedRow, i: usize) -> Verdict
     ensures { (tree : Tree) (r : TreeRow) → Holds tree certificate.entry → Lists tree certificate.entry r row → i < certificate.entry.header.rows → verdict_says result ≡ check_dominates tree (constraint_of tree (row_at tree i)) r }
 {
     let by = constraints::row_of(certificate, certificate.row(i));
-    Constraint::of_row(by).check_dominates(certificate, row)
+    constraints::check_by_terms(certificate, by, row)
 }
 
 impl<'a> Checker<'a> {
@@ -68,21 +71,34 @@ impl<'a> Checker<'a> {
     pub(crate) fn check_lin(&self, own: usize, row: ListedRow) -> Verdict
         ensures { (tree : Tree) (r : TreeRow) (ms : List Multiplier) → Holds tree self.now.certificate → Lists tree self.now.certificate r row → HasMultipliers self.now.certificate own ms → verdict_says result ≡ check_lin tree r ms }
     {
-        let made = suitable_combination(self.certificate, own, row.place)?;
-        made.check_dominates(self.certificate, row)
+        let multipliers = Multipliers::of(self.certificate, own);
+        let sense = suitable_sense(self.certificate, multipliers, row.place)?;
+        let made = multipliers.combine(self.certificate);
+        let bound = bound_of(row, sense, made.right)?;
+        Constraint {
+            coefficients: &made.coefficients,
+            bound,
+        }
+        .check_dominates(self.certificate, row)
     }
 
     // "13, 12, then 14 ..; round; 15".
     pub(crate) fn check_rnd(&self, own: usize, row: ListedRow) -> Verdict
         ensures { (tree : Tree) (r : TreeRow) (ms : List Multiplier) → Checks tree self.now → Lists tree self.now.certificate r row → HasMultipliers self.now.certificate own ms → verdict_says result ≡ check_rnd tree r ms }
     {
-        let made = suitable_combination(self.certificate, own, row.place)?;
+        let multipliers = Multipliers::of(self.certificate, own);
+        let sense = suitable_sense(self.certificate, multipliers, row.place)?;
+        let made = multipliers.combine(self.certificate);
+        let bound = bound_of(row, sense, made.right)?;
         let n = self.certificate.header.variables;
         let integral = made.coefficients.is_integral(&self.integers, n);
-        let rounds = made.bound.can_be_rounded(integral);
+        let rounds = bound.can_be_rounded(integral);
         require(rounds, Refusal::CannotBeRounded, row.place)?;
-        let bound = made.bound.rounded();
-        Constraint { bound, ..made }.check_dominates(self.certificate, row)
+        Constraint {
+            coefficients: &made.coefficients,
+            bound: bound.rounded(),
+        }
+        .check_dominates(self.certificate, row)
     }
 
     // Whether rows l1 and l2 are a proper split.
@@ -127,6 +143,6 @@ impl<'a> Checker<'a> {
                 right: best,
             },
         };
-        Constraint::of_row(by).check_dominates(self.certificate, row)
+        constraints::check_by_terms(self.certificate, by, row)
     }
 }

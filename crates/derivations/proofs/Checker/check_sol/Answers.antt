@@ -4,14 +4,12 @@ use Rattle.std.proofs.Math.Path.{ap₂}
 use Rattle.std.proofs.lemmas.Option.{MatchOption-at_some}
 use Rattle.arithmetic.specs.Fraction.{IsFraction}
 use Rattle.arithmetic.specs.declared.Fraction.{Fraction}
-use Rattle.rules.specs.Rows.{value_in, objective, objective_with, Constraint}
+use Rattle.rules.specs.Rows.{value_in, objective, objective_with}
 use Rattle.rules.specs.Derivations.{check_dominates, check_sol}
 use Rattle.rules.specs.Sentence.Formed.{Formed}
 use Rattle.linear.specs.Lists.{terms_in}
-use Rattle.linear.specs.declared.rows.Row.{Row}
 use Rattle.encoding.proofs.EncodesLaws.{maximize_is}
 use Rattle.verdicts.specs.Best.{best_says}
-use Rattle.derivations.proofs.RowsLaws.{made_is, made_fractions}
 use Rattle.derivations.proofs.Checker.check_sol.Goals as goal
 
 pub returns : goal.returns
@@ -23,8 +21,6 @@ returns c =
     let n = c.args.self.now.certificate.header.variables in
     let formed = subst (Formed n) (sym q) (subst (λ (k : ℕ). Formed k (objective tree)) l.number e.formed.objective_formed) in
     let fraction = MatchOption-at_some _ IsFraction _ c.in-Some.is f in
-    let by : Row = record { terms = c.terms.result; bound = record { sense = c.sense_towards.result; right = c.in-Some.best } } in
-    c.check_dominates.ensures tree r l (made_fractions l.few by formed fraction _ c.of_row.ensures)
-    ∙ ap (λ (d : Constraint). check_dominates tree d r) (made_is l.few by formed fraction _ c.of_row.ensures)
+    c.check_by_terms.ensures tree r l formed fraction
     ∙ (λ i. check_dominates tree (record { sense = s i; coefficient = value_in (q i); right = c.in-Some.best }) r)
     ∙ sym (ap (λ (o : Option Fraction). check_sol tree (best_says o) r) c.in-Some.is)
