@@ -1,8 +1,10 @@
 // What the programs of cases share: the cases of an input, which are texts under names, and rows of cells.
 #![tactic(auto)]
 
-ghost use Rattle.std.specs.Prelude.{◌+◌, ◌<◌, ◌≤◌, length, IfOk, IfSome};
+ghost use Rattle.std.specs.Prelude.{◌≡◌, ◌+◌, ◌≤◌, [], length, drop, IfOk, MatchOption};
 ghost use Rattle.std.specs.Iterator.{at_most};
+ghost use Rattle.case_texts.specs.Cases.{before_mark, from_mark, IsNextCase};
+ghost use Rattle.case_texts.specs.Cells.{cells_text};
 
 use std::fmt::Display;
 use std::io::Read;
@@ -29,19 +31,29 @@ pub struct Case<'a> {
     pub text: &'a [u8],
 }
 
-// What stands before the first mark and what stands after it, or all of a text and nothing.
-fn cut<'a, const N: usize>(text: &'a [u8], mark: &[u8; N]) -> (&'a [u8], &'a [u8])
-    requires { 1 ≤ N }
-    ensures shorter { 1 ≤ length text.now → length result.1.now < length text.now }
+// What stands before the first mark, and the rest from the mark on; all of a text and nothing, where there is none.
+fn cut<'a>(text: &'a [u8], mark: &[u8]) -> (&'a [u8], &'a [u8])
+    ensures before { result.0.now ≡ before_mark mark.now text.now }
+    ensures from { result.1.now ≡ from_mark mark.now text.now }
     ensures parts { length result.0.now + length result.1.now ≤ length text.now }
 {
-    match text.windows(N).position(|window| window == mark.as_slice()) {
-        Some(at) => (&text[..at], &text[at + N..]),
-        None => (text, &[]),
+    for at in 0..text.len() {
+        if text[at..].starts_with(mark) {
+            return (&text[..at], &text[at..]);
+        }
     }
+    (text, &[])
 }
 
-// The cases of an input. Each is a line with `=`, a space and its name, and then its text, up to the LF before the next such line.
+// What is left past so many bytes.
+fn past(text: &[u8], count: usize) -> &[u8]
+    ensures { result.now ≡ drop count text.entry.now }
+{
+    &text[count.min(text.len())..]
+}
+
+// The cases of an input. Each is a line whose first two bytes, `=` and a space, stand before its name, and then its text, up to the
+// LF before the next line that begins with `=`.
 #[derive(Drop)]
 pub struct Cases<'a> {
     rest: &'a [u8],
@@ -49,18 +61,16 @@ pub struct Cases<'a> {
 
 impl<'a> Cases<'a> {
     pub fn new(input: &'a [u8]) -> Cases<'a>
-        ensures { length result.rest.now ≤ length input.now }
+        ensures { result.rest.now ≡ input.now }
     {
-        Cases {
-            rest: input.strip_prefix(b"= ").unwrap_or(input),
-        }
+        Cases { rest: input }
     }
 }
 
 impl<'a> Iterator for Cases<'a> {
     type Item = Case<'a>;
 
-    ghost next_gives = { λ s r t. IfSome r (λ c. length c.name.now + length c.text.now ≤ length s.rest.now) };
+    ghost next_gives = { λ s r t. MatchOption r (s.rest.now ≡ []) (λ c. IsNextCase s.rest.now c.name.now c.text.now t.rest.now) };
 
     ghost remaining = { λ s. at_most (length s.rest.now) };
 
@@ -68,10 +78,13 @@ impl<'a> Iterator for Cases<'a> {
         if self.rest.is_empty() {
             return None;
         }
-        let (case, rest) = cut(self.rest, b"\n= ");
-        let (name, text) = cut(case, b"\n");
-        self.rest = rest;
-        Some(Case { name, text })
+        let (line, below) = cut(self.rest, b"\n");
+        let (text, rest) = cut(below, b"\n=");
+        self.rest = past(rest, 1);
+        Some(Case {
+            name: past(line, 2),
+            text: past(text, 1),
+        })
     }
 }
 
@@ -80,6 +93,8 @@ impl<'a> Iterator for Cases<'a> {
 pub struct Cells<'a, T>(pub &'a [T]);
 
 impl<'a, T: Display> Display for Cells<'a, T> {
+    ghost output = { λ cells. cells_text T.output cells.0.now };
+
     fn fmt<W: fmt::Write>(&self, f: &mut fmt::Formatter<W>) -> fmt::Result {
         for cell in self.0 {
             write!(f, " {cell}")?;

@@ -2,7 +2,7 @@
 // and checking share.
 #![tactic(auto)]
 
-ghost use Rattle.std.specs.Prelude.{◌≡◌};
+ghost use Rattle.std.specs.Prelude.{◌≡◌, ◌++◌, Some, codes, decimal};
 ghost use Rattle.grammar.specs.Refusals.{refusal_number};
 
 use std::fmt;
@@ -54,6 +54,8 @@ pub struct Refused {
 }
 
 impl fmt::Display for Refused {
+    ghost output = { λ r. Some (codes "refused " ++ (decimal (refusal_number r.reason) ++ (codes " " ++ decimal r.line))) };
+
     fn fmt<W: fmt::Write>(&self, f: &mut fmt::Formatter<W>) -> fmt::Result {
         write!(f, "refused {} {}", u8::from(self.reason), self.line)
     }
