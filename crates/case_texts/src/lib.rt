@@ -70,7 +70,7 @@ impl<'a> Cases<'a> {
 impl<'a> Iterator for Cases<'a> {
     type Item = Case<'a>;
 
-    ghost next_gives = { λ s r t. MatchOption r (s.rest.now ≡ []) (λ c. IsNextCase s.rest.now c.name.now c.text.now t.rest.now) };
+    ghost next_gives = { λ s r t. MatchOption r (s.rest.now ≡ []) (λ c. IsNextCase s.rest.now c.name.now c.text.now t.rest.now × (length c.name.now + length c.text.now ≤ length s.rest.now)) };
 
     ghost remaining = { λ s. at_most (length s.rest.now) };
 
