@@ -28,7 +28,7 @@ use Rattle.rules.specs.Rows.{value_in}
 use Rattle.rules.specs.Combinations.{with_coefficient}
 use Rattle.linear.specs.Lists.{a_term, terms_in, TermsBelow}
 use Rattle.linear.specs.ListsLaws.{listed_from, listed_next, listed_none, all-at}
-use Rattle.linear.specs.Coefficients.{denominator_of, stored, coefficients_of}
+use Rattle.linear.specs.Coefficients.{denominator_of, stored, cells_of, coefficients_of}
 use Rattle.linear.specs.Comparing.{is_nonzero, nonzeros_below}
 use Rattle.linear.proofs.Counting.{count_range}
 use Rattle.linear.specs.declared.coefficients.Coefficients.{Coefficients}
@@ -39,27 +39,39 @@ use Rattle.linear.specs.declared.coefficients.Coefficients.{Coefficients}
 pub denominator_is : (d : ℤ) → (d ≡ pos 0 → ⊥) → denominator_of d ≡ d
 denominator_is d n = ap (λ (t : Bool). cond t (pos 1) d) (fails (same_z d (pos 0)) (decides_same_integer d (pos 0)) n)
 
--- a fraction's is stored as it is
-stored_is : (f : Fraction) → IsFraction f → stored f ≡ f
-stored_is f h = ap (λ (d : ℤ). record { num = f.num; den = d }) (denominator_is f.den not-zero)
-  where
-    not-zero : f.den ≡ pos 0 → ⊥
-    not-zero e = none (subst (λ (d : ℤ). pos 0 <ℤ d) e h.positive)
-      where
-        none : pos 0 <ℤ pos 0 → ⊥
-        none k = k.lt
+-- what has one is stored as it is
+stored_is : (f : Fraction) → (f.den ≡ pos 0 → ⊥) → stored f ≡ f
+stored_is f n = ap (λ (d : ℤ). record { num = f.num; den = d }) (denominator_is f.den n)
 
--- a stored fraction is the coefficient of its variable, and no other variable's changes
-pub coefficients_set : (before after : Coefficients) (v : ℕ) (f : Fraction) → v < length before.of → after.of ≡ set before.of v f → IsFraction f
+-- a fraction's denominator is not 0
+pub not-zero : (f : Fraction) → IsFraction f → f.den ≡ pos 0 → ⊥
+not-zero f h e = none (subst (λ (d : ℤ). pos 0 <ℤ d) e h.positive)
+  where
+    none : pos 0 <ℤ pos 0 → ⊥
+    none k = k.lt
+
+-- what is stored stands in its cell, and no other cell changes
+pub cells_set : (before after : Coefficients) (v : ℕ) (f : Fraction) → v < length before.of → after.of ≡ set before.of v f
+    → cells_of after ≡ with_coefficient v f (cells_of before)
+cells_set before after v f h e = λ i w. at w (eqb v w) refl i
+  where
+    at : (w : ℕ) (t : Bool) → eqb v w ≡ t → get_or after.of w zero_f ≡ cond t f (get_or before.of w zero_f)
+    at w true q =
+        ap₂ (λ (l : List Fraction) (u : ℕ). get_or l u zero_f) e (sym (eqb-true v w q)) ∙ get_or-set_same before.of v f zero_f h
+    at w false q =
+        ap (λ (l : List Fraction). get_or l w zero_f) e ∙ get_or-set_other before.of v w f zero_f (λ r. eqb-false v w q (sym r))
+
+-- if it has a denominator, it is the coefficient of its variable, and no other variable's changes
+pub coefficients_set : (before after : Coefficients) (v : ℕ) (f : Fraction) → v < length before.of → after.of ≡ set before.of v f → (f.den ≡ pos 0 → ⊥)
     → coefficients_of after ≡ with_coefficient v f (coefficients_of before)
 unfolding coefficients_of
-coefficients_set before after v f h e is = λ i w. at w (eqb v w) refl i
+coefficients_set before after v f h e n =
+    let coefficients : (ℕ → Fraction) → ℕ → Fraction = λ cells w. stored (cells w) in
+    ap coefficients (cells_set before after v f h e) ∙ (λ i w. at (eqb v w) (cells_of before w) i)
   where
-    at : (w : ℕ) (t : Bool) → eqb v w ≡ t → stored (get_or after.of w zero_f) ≡ cond t f (stored (get_or before.of w zero_f))
-    at w true q =
-        ap stored (ap₂ (λ (l : List Fraction) (u : ℕ). get_or l u zero_f) e (sym (eqb-true v w q)) ∙ get_or-set_same before.of v f zero_f h) ∙ stored_is f is
-    at w false q =
-        ap stored (ap (λ (l : List Fraction). get_or l w zero_f) e ∙ get_or-set_other before.of v w f zero_f (λ r. eqb-false v w q (sym r)))
+    at : (t : Bool) (g : Fraction) → stored (cond t f g) ≡ cond t f (stored g)
+    at true g = stored_is f n
+    at false g = refl
 
 -- nothing is stored yet
 pub all_zero : (n v : ℕ) → stored (get_or (replicate n (record { num = pos 0; den = pos 0 })) v zero_f) ≡ zero_f

@@ -20,9 +20,13 @@ denominator_of d = cond (same_z d (pos 0)) (pos 1) d
 abbrev pub stored : Fraction → Fraction
 stored f = record { num = f.num; den = denominator_of f.den }
 
+-- what stands in each cell, 0 / 1 beyond the array
+abbrev pub cells_of : Coefficients → ℕ → Fraction
+cells_of c v = get_or c.of v zero_f
+
 -- the coefficient of each variable
 unfoldable pub coefficients_of : Coefficients → ℕ → Fraction
-coefficients_of c v = stored (get_or c.of v zero_f)
+coefficients_of c v = stored (cells_of c v)
 
 -- "fractions in lowest terms within the limit", at every variable
 abbrev pub AreFractions : (ℕ → Fraction) → Type 0
