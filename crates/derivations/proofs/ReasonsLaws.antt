@@ -48,13 +48,21 @@ abbrev pub denoted : Sense → rules.Combination → Result Constraint
 denoted s c = done (record { sense = s; coefficient = c.coefficient; right = c.right })
 
 -- what the sign rule answered, and the combination after it
-pub suitable_by : (tree : Tree) (place : ℕ) {ns ms : List Multiplier} → ns ≡ ms → {r : Result Sense} → r ≡ require (is_suitable tree ns) 13 place and_then done (sense_of tree ns)
-    → bind r (λ (s : Sense). bind (combine tree place ns) (denoted s)) ≡ suitable_combination tree place ms
+pub suitable_by : (tree : Tree) (place : ℕ) {b : Bool} {ns ms : List Multiplier} {v : Verdict} → b ≡ is_suitable tree ns → ns ≡ ms → v ≡ require b 13 place
+    → v and_then bind (combine tree place ns) (denoted (sense_of tree ns)) ≡ suitable_combination tree place ms
 unfolding suitable_combination
-suitable_by tree place {ns = ns} q e =
+suitable_by tree place {ns = ns} e q r =
+    ap (λ (v : Verdict). v and_then bind (combine tree place ns) (denoted (sense_of tree ns))) r
+    ∙ ap (λ (b : Bool). require b 13 place and_then bind (combine tree place ns) (denoted (sense_of tree ns))) e
+    ∙ ap (suitable_combination tree place) q
+
+-- the same, where the sense came with the answer
+pub suitable_sense_by : (tree : Tree) (place : ℕ) {ns ms : List Multiplier} → ns ≡ ms → {r : Result Sense} → r ≡ require (is_suitable tree ns) 13 place and_then done (sense_of tree ns)
+    → bind r (λ (s : Sense). bind (combine tree place ns) (denoted s)) ≡ suitable_combination tree place ms
+suitable_sense_by tree place {ns = ns} q e =
     ap (λ (r : Result Sense). bind r (λ (s : Sense). bind (combine tree place ns) (denoted s))) e
     ∙ go (require (is_suitable tree ns) 13 place)
-    ∙ ap (suitable_combination tree place) q
+    ∙ suitable_by tree place refl q refl
   where
     go : (v : Verdict) → bind (v and_then done (sense_of tree ns)) (λ (s : Sense). bind (combine tree place ns) (denoted s)) ≡ v and_then bind (combine tree place ns) (denoted (sense_of tree ns))
     go (done u) = refl
@@ -74,7 +82,7 @@ suitable_made tree place q s e c made f =
     ap (λ (b : Result Bound). bind b (λ (b : Bound). done (constraint_by (coefficients_of c.coefficients) b))) f
     ∙ bound_denotes (coefficients_of c.coefficients) place s c.right
     ∙ ap (λ (r : Result rules.Combination). bind r (denoted (sense_is s))) made
-    ∙ suitable_by tree place q e
+    ∙ suitable_sense_by tree place q e
 
 -- the right side of a bound that was answered is a fraction
 pub bound_fraction : (place : ℕ) (s : code.Sense) (right : Option Fraction) {b : Bound} → done b ≡ bound_with place s right → IfSome right IsFraction → IsFraction b.right

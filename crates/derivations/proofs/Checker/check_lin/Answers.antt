@@ -6,7 +6,7 @@ use Rattle.rules.specs.Combinations.{suitable_combination}
 use Rattle.rules.specs.Derivations.{check_dominates, check_lin}
 use Rattle.verdicts.specs.Verdicts.{verdict_says}
 use Rattle.derivations.proofs.Refusals.{handed_up}
-use Rattle.derivations.proofs.ReasonsLaws.{suitable_by, suitable_made, bound_fraction, fetched_are}
+use Rattle.derivations.proofs.ReasonsLaws.{suitable_sense_by, suitable_made, bound_fraction, fetched_are}
 use Rattle.derivations.proofs.Checker.check_lin.Goals as goal
 
 pub returns-in_err-sense : goal.returns-in_err-sense
@@ -16,7 +16,7 @@ returns-in_err-sense c =
     let g = fetched_are c.of-multipliers.ensures.rows c.of-multipliers.ensures.factors m in
     ap verdict_says (handed_up c.from_residual.result c.in_err-sense.field-0.0 c.from_residual.ensures.1)
     ∙ ap (λ (u : Result Constraint). bind u (λ d. check_dominates tree d r))
-    (suitable_by tree _ g.same (c.in_err-sense.ensures tree e g.below) ∙ ap (λ (p : ℕ). suitable_combination tree p ms) l.is.place_is)
+    (suitable_sense_by tree _ g.same (c.in_err-sense.ensures tree e g.below) ∙ ap (λ (p : ℕ). suitable_combination tree p ms) l.is.place_is)
 
 pub returns-in_err-bound : goal.returns-in_err-bound
 unfolding check_lin

@@ -9,7 +9,7 @@ use Rattle.senses.specs.Senses.{sense_is, constraint_by}
 use Rattle.linear.specs.Coefficients.{coefficients_of}
 use Rattle.verdicts.specs.Verdicts.{verdict_says}
 use Rattle.derivations.proofs.Refusals.{handed_up, require_is, then_on}
-use Rattle.derivations.proofs.ReasonsLaws.{suitable_by, suitable_made, bound_fraction, fetched_are}
+use Rattle.derivations.proofs.ReasonsLaws.{suitable_sense_by, suitable_made, bound_fraction, fetched_are}
 use Rattle.derivations.proofs.Checker.check_rnd.Goals as goal
 
 pub returns-in_err-sense : goal.returns-in_err-sense
@@ -19,7 +19,7 @@ returns-in_err-sense c =
     let g = fetched_are c.of-multipliers.ensures.rows c.of-multipliers.ensures.factors m in
     ap verdict_says (handed_up c.from_residual.result c.in_err-sense.field-0.0 c.from_residual.ensures.1)
     ∙ ap (λ (u : Result Constraint). bind u (λ d. require (can_be_rounded tree d) 14 r.name.place and_then check_dominates tree (rounded d) r))
-    (suitable_by tree _ g.same (c.in_err-sense.ensures tree h.encodes g.below) ∙ ap (λ (p : ℕ). suitable_combination tree p ms) l.is.place_is)
+    (suitable_sense_by tree _ g.same (c.in_err-sense.ensures tree h.encodes g.below) ∙ ap (λ (p : ℕ). suitable_combination tree p ms) l.is.place_is)
 
 pub returns-in_err-bound : goal.returns-in_err-bound
 unfolding check_rnd
