@@ -39,11 +39,11 @@ use Rattle.linear.specs.declared.coefficients.Coefficients.{Coefficients}
 pub denominator_is : (d : ℤ) → (d ≡ pos 0 → ⊥) → denominator_of d ≡ d
 denominator_is d n = ap (λ (t : Bool). cond t (pos 1) d) (fails (same_z d (pos 0)) (decides_same_integer d (pos 0)) n)
 
--- what has one is stored as it is
+-- a number over a denominator that is not 0 is stored as it is
 stored_is : (f : Fraction) → (f.den ≡ pos 0 → ⊥) → stored f ≡ f
 stored_is f n = ap (λ (d : ℤ). record { num = f.num; den = d }) (denominator_is f.den n)
 
--- a fraction's denominator is not 0
+-- such is a fraction
 pub not-zero : (f : Fraction) → IsFraction f → f.den ≡ pos 0 → ⊥
 not-zero f h e = none (subst (λ (d : ℤ). pos 0 <ℤ d) e h.positive)
   where
@@ -61,7 +61,7 @@ cells_set before after v f h e = λ i w. at w (eqb v w) refl i
     at w false q =
         ap (λ (l : List Fraction). get_or l w zero_f) e ∙ get_or-set_other before.of v w f zero_f (λ r. eqb-false v w q (sym r))
 
--- if it has a denominator, it is the coefficient of its variable, and no other variable's changes
+-- a number over a denominator that is not 0 is then the coefficient of its variable, and no other variable's changes
 pub coefficients_set : (before after : Coefficients) (v : ℕ) (f : Fraction) → v < length before.of → after.of ≡ set before.of v f → (f.den ≡ pos 0 → ⊥)
     → coefficients_of after ≡ with_coefficient v f (coefficients_of before)
 unfolding coefficients_of
